@@ -1,0 +1,10 @@
+-- One outcome for a promise that is an equation.
+use mathlib.Core.Path.{_≡_, sym, ap, _∙_}
+use Rattle.hamming.specs.Answer.{Unique}
+
+pub equation : {A : Type 0} (d : A) → Unique (λ r. r ≡ d)
+equation d r s p q = p ∙ sym q
+
+-- through a definition of the answer's numbers that can be turned back
+pub numbered : {A B : Type 0} (f : A → B) (back : B → A) → ((a : A) → back (f a) ≡ a) → (d : B) → Unique (λ r. f r ≡ d)
+numbered f back e d r s p q = sym (e r) ∙ ap back (p ∙ sym q) ∙ e s

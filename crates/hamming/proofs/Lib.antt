@@ -1,0 +1,5 @@
+pub mod All
+pub mod Ones
+pub mod Bytes
+pub mod Answers
+pub mod Proved

@@ -1,0 +1,100 @@
+-- The reader goes by the sixteen nibbles: it looks at no other byte, one wrong bit in each is nothing, two in one are refused.
+use Prim.Native.Nat.{ℕ, suc}
+use mathlib.Core.Path.{_≡_, refl, sym, ap, ap₂, fun-ext, _∙_}
+use mathlib.Core.Bool.{true, false, _||_, or-true}
+use mathlib.Core.List.{List, _∷_, _++_}
+use native.Mathlib.Omega.{arith}
+use borrow.Author.Tests.{ne-eqb, ltb-true, le-ltb}
+use lib.Dec.{ltb}
+use lib.ListN.{length, getD, take, drop}
+use Rattle.hamming.specs.Answer.{refused, Row, firstOf}
+use Rattle.hamming.specs.Byte.{nibbleOf}
+use Rattle.hamming.specs.declared.Nibble.the-variants.{Damaged, Value}
+use Rattle.hamming.proofs.Bytes as bytes
+use Rattle.label.specs.Layout.{labelBy}
+use Rattle.label.specs.Packet.{readerRows, readingOf, labelIn, nibbleAt, valueAt, valueOf, damagedAt, damaged, hammingBytes, labelBytes}
+use Rattle.label.specs.Laws.{member, AtEach, Good, OneWrong, TwoWrong, damageNumber, sooner}
+use Rattle.label.proofs.Every.{All, all-map, every, listed, each-listed, unlisted, any-same, none-any, any-one, one-more}
+use Rattle.label.proofs.Places.{sentBytes, field-same}
+
+-- ── the sixteen nibbles ────────────────────────────────────────────────────────────────────────────────────────────
+by-nibbles : (p q : List ℕ) → length p ≡ length q → AtEach (λ i. nibbleAt p i ≡ nibbleAt q i) → readingOf p ≡ readingOf q
+unfolding readingOf
+by-nibbles p q h e =
+    let n = unlisted hammingBytes e in
+    let d = any-same (damagedAt p) (damagedAt q) labelBytes false
+    (all-map (λ i. nibbleAt p i ≡ nibbleAt q i) (λ i. damagedAt p i ≡ damagedAt q i) (λ i e. ap damaged e) labelBytes (n .1 .1 .1)) in
+    let v = all-map (λ i. nibbleAt p i ≡ nibbleAt q i) (λ i. valueAt p i ≡ valueAt q i) (λ i e. ap valueOf e) sentBytes (n .1 .1) in
+    let rows : readerRows p ≡ readerRows q = rw (h, n .0, n .1 .0, n .1 .1 .0, d) in
+    ap₂ firstOf rows (ap labelBy (fun-ext (field-same (valueAt p) (valueAt q) v)))
+
+pub only : (p q : List ℕ) → length p ≡ length q → AtEach (λ i. getD p i 0 ≡ getD q i 0) → readingOf p ≡ readingOf q
+only p q h e = by-nibbles p q h (λ i m. ap nibbleOf (e i m))
+
+-- ── wrong bits in a good byte ──────────────────────────────────────────────────────────────────────────────────────
+module _ (g b : ℕ) (good : Good g) where
+  good-value : nibbleOf g ≡ Value (good .0)
+  good-value = ap nibbleOf (good .2) ∙ bytes.sent (good .0) (good .1)
+
+  one-wrong : OneWrong g b → nibbleOf b ≡ nibbleOf g
+  one-wrong w = bytes.near b (good .0) (w .0) (good .1) (rw (good .2) at (w .1)) ∙ sym good-value
+
+  two-wrong : TwoWrong g b → nibbleOf b ≡ Damaged
+  two-wrong w = bytes.two b (good .0) (w .0) (good .1) (rw (good .2) at (w .1))
+
+pub one : (p q : List ℕ) → length p ≡ length q → AtEach (λ i. Good (getD p i 0)) → AtEach (λ i. OneWrong (getD p i 0) (getD q i 0)) →
+    readingOf q ≡ readingOf p
+one p q h g w = by-nibbles q p (sym h) (λ i m. one-wrong (getD p i 0) (getD q i 0) (g i m) (w i m))
+
+-- ── one damaged byte ───────────────────────────────────────────────────────────────────────────────────────────────
+-- the row after k others, with the number n, applies to q and not to p, and those before it to both or neither
+turned : (p q : List ℕ) (k n : ℕ) → readerRows q ≡ take k (readerRows p) ++ ((true, n) ∷ drop (suc k) (readerRows q)) →
+    readerRows p ≡ take k (readerRows p) ++ ((false, n) ∷ drop (suc k) (readerRows p)) → every (λ row. ltb (row .1) n) (take k (readerRows p)) ≡ true →
+    every (λ row. ltb n (row .1)) (drop (suc k) (readerRows p)) ≡ true → readingOf q ≡ refused (sooner (readingOf p) n)
+unfolding readingOf
+turned p q k n e f b a =
+    ap (λ (rows : List Row). firstOf rows (labelIn q)) e
+    ∙ one-more (labelIn p) (labelIn q) n (take k (readerRows p)) (drop (suc k) (readerRows q)) (drop (suc k) (readerRows p)) b a
+    ∙ ap (λ (rows : List Row). refused (sooner (firstOf rows (labelIn p)) n)) (sym f)
+
+module _ (p q : List ℕ) (hp : length p ≡ 42) (hq : length q ≡ 42) (clean : All (λ i. damagedAt p i ≡ false) hammingBytes) where
+  -- byte j alone is damaged
+  abbrev Alone : ℕ → Type 0
+  Alone j = (damagedAt q j ≡ true) × AtEach (λ i. (i ≡ j → ⊥) → nibbleAt q i ≡ nibbleAt p i)
+
+  abbrev Told : ℕ → Type 0
+  Told j = Alone j → readingOf q ≡ refused (sooner (readingOf p) (damageNumber j))
+
+  told-address : (damagedAt q 0 || damagedAt q 1) ≡ true → readingOf q ≡ refused (sooner (readingOf p) 2)
+  told-address d = turned p q 1 2 (rw (hq, hp, d)) (rw (clean .0, clean .1 .0)) refl refl
+
+  told-2 : Told 2
+  told-2 a =
+      let n₀ = a .1 0 refl (omega arith) in
+      let n₁ = a .1 1 refl (omega arith) in
+      turned p q 3 4 (rw (hq, hp, n₀, n₁, a .0)) (rw (clean .1 .1 .0)) refl refl
+
+  told-label : (j : ℕ) → member j labelBytes ≡ true → Told j
+  told-label j m a =
+      let h = ltb-true 2 j (each-listed (ltb 2) labelBytes refl j m) in
+      let n₀ = a .1 0 refl (omega arith) in
+      let n₁ = a .1 1 refl (omega arith) in
+      let n₂ = a .1 2 refl (omega arith) in
+      rw (le-ltb j 2 (omega arith), ne-eqb j 2 (omega arith))
+      (turned p q 5 6 (rw (hq, hp, n₀, n₁, n₂, any-one (damagedAt q) labelBytes false j m (a .0))) (rw (none-any (damagedAt p) labelBytes (clean .1 .1 .1))) refl refl)
+
+  told : AtEach Told
+  told =
+      listed Told hammingBytes (
+        λ a. told-address (rw (a .0)),
+        (λ a. told-address (rw (a .0) (or-true (damagedAt q 0))), (told-2, unlisted labelBytes told-label)),
+      )
+
+pub two : (p q : List ℕ) (j : ℕ) → length p ≡ 42 → length q ≡ 42 → AtEach (λ i. Good (getD p i 0)) → member j hammingBytes ≡ true →
+    TwoWrong (getD p j 0) (getD q j 0) → AtEach (λ i. (i ≡ j → ⊥) → OneWrong (getD p i 0) (getD q i 0)) →
+    readingOf q ≡ refused (sooner (readingOf p) (damageNumber j))
+two p q j hp hq g m b w =
+    told p q hp hq (unlisted hammingBytes (λ i k. ap damaged (good-value (getD p i 0) 0 (g i k)))) j m (
+      ap damaged (two-wrong (getD p j 0) (getD q j 0) (g j m) b),
+      λ i k z. one-wrong (getD p i 0) (getD q i 0) (g i k) (w i k z),
+    )

@@ -1,0 +1,151 @@
+-- Tests over lists, listed places, and what an answer by 'the first that applies' has passed.
+use Prim.Native.Nat.{ℕ}
+use mathlib.Core.Path.{_≡_, refl, sym, ap, _∙_}
+use mathlib.Core.Bool.{Bool, true, false, cond, _&&_, _||_, or-true}
+use mathlib.Core.List.{List, [], _∷_, _++_, map}
+use native.Mathlib.Omega.{arith}
+use borrow.Author.Tests.{eqb-true, eq-eqb, ltb-true, le-ltb}
+use lib.Dec.{eqb, ltb}
+use Rattle.hamming.specs.Answer.{refused, given, Row, firstOf}
+use Rattle.label.specs.Packet.{anyFrom}
+use Rattle.label.specs.Laws.{member, sooner}
+
+pub no-way : {X : Type 0} → true ≡ false → X
+no-way e = absurd (let z : _≡_ {A = ℕ} 0 1 = cc in omega arith)
+
+pub or-left : (a b : Bool) → (a || b) ≡ false → a ≡ false
+or-left true b e = e
+or-left false b e = refl
+
+pub or-right : (a b : Bool) → (a || b) ≡ false → b ≡ false
+or-right true b e = no-way e
+or-right false b e = e
+
+pub and-left : (a b : Bool) → (a && b) ≡ true → a ≡ true
+and-left true b e = refl
+and-left false b e = e
+
+pub and-right : (a b : Bool) → (a && b) ≡ true → b ≡ true
+and-right true b e = e
+and-right false b e = no-way (sym e)
+
+-- ── every element ──────────────────────────────────────────────────────────────────────────────────────────────────
+abbrev pub All : {A : Type 0} → (A → Type 0) → List A → Type 0
+All P [] = Unit {0}
+All P (x ∷ xs) = P x × All P xs
+
+pub all-of : {A : Type 0} {P : A → Type 0} → ((x : A) → P x) → (xs : List A) → All P xs
+all-of h [] = tt
+all-of h (x ∷ xs) = (h x, all-of h xs)
+
+pub all-map : {A : Type 0} (P Q : A → Type 0) → ((x : A) → P x → Q x) → (xs : List A) → All P xs → All Q xs
+all-map P Q h [] a = tt
+all-map P Q h (x ∷ xs) a = (h x (a .0), all-map P Q h xs (a .1))
+
+pub all-append : {A : Type 0} (P : A → Type 0) (xs ys : List A) → All P xs → All P ys → All P (xs ++ ys)
+all-append P [] ys a b = b
+all-append P (x ∷ xs) ys a b = (a .0, all-append P xs ys (a .1) b)
+
+-- a test that antt computes, and what follows from it
+abbrev pub every : {A : Type 0} → (A → Bool) → List A → Bool
+every f [] = true
+every f (x ∷ xs) = f x && every f xs
+
+pub tested : {A : Type 0} {P : A → Type 0} (f : A → Bool) → ((x : A) → f x ≡ true → P x) → (xs : List A) → every f xs ≡ true → All P xs
+tested f h [] e = tt
+tested f h (x ∷ xs) e = (h x (and-left (f x) (every f xs) e), tested f h xs (and-right (f x) (every f xs) e))
+
+pub map-same : {A B : Type 0} (f g : A → B) (xs : List A) → All (λ x. f x ≡ g x) xs → map f xs ≡ map g xs
+map-same f g [] a = refl
+map-same f g (x ∷ xs) a = rw (a .0, map-same f g xs (a .1))
+
+pub map-all : {A B : Type 0} (f g : A → B) (xs : List A) → map f xs ≡ map g xs → All (λ x. f x ≡ g x) xs
+map-all f g [] e = tt
+map-all f g (x ∷ xs) e = (cc, map-all f g xs (cc))
+
+-- ── listed places ──────────────────────────────────────────────────────────────────────────────────────────────────
+pub listed : (P : ℕ → Type 0) (is : List ℕ) → All P is → (i : ℕ) → member i is ≡ true → P i
+listed P [] a i m = no-way (sym m)
+listed P (j ∷ is) a i m = go (eqb i j) refl m (listed P is (a .1) i)
+  where
+    go : (t : Bool) → eqb i j ≡ t → (t || member i is) ≡ true → (member i is ≡ true → P i) → P i
+    go true e h k = rw (eqb-true i j e) (a .0)
+    go false e h k = k h
+
+pub unlisted : {P : ℕ → Type 0} (is : List ℕ) → ((i : ℕ) → member i is ≡ true → P i) → All P is
+unlisted [] h = tt
+unlisted (j ∷ is) h = (h j (rw (eq-eqb j j refl)), unlisted is (λ i m. h i (rw m (or-true (eqb i j)))))
+
+-- a test that antt computes over a list passes at each listed number
+pub each-listed : (f : ℕ → Bool) (is : List ℕ) → every f is ≡ true → (i : ℕ) → member i is ≡ true → f i ≡ true
+each-listed f is e = listed (λ i. f i ≡ true) is (tested f (λ i t. t) is e)
+
+-- ── one of them ────────────────────────────────────────────────────────────────────────────────────────────────────
+pub any-same : {A : Type 0} (f g : A → Bool) (xs : List A) (t : Bool) → All (λ x. f x ≡ g x) xs → anyFrom t f xs ≡ anyFrom t g xs
+any-same f g [] t a = refl
+any-same f g (x ∷ xs) t a = rw (a .0) (any-same f g xs (t || g x) (a .1))
+
+any-start : {A : Type 0} (f : A → Bool) (xs : List A) (t : Bool) → anyFrom t f xs ≡ false → t ≡ false
+any-start f [] t e = e
+any-start f (x ∷ xs) t e = or-left t (f x) (any-start f xs (t || f x) e)
+
+pub any-none : {A : Type 0} (f : A → Bool) (xs : List A) (t : Bool) → anyFrom t f xs ≡ false → All (λ x. f x ≡ false) xs
+any-none f [] t e = tt
+any-none f (x ∷ xs) t e = (or-right t (f x) (any-start f xs (t || f x) e), any-none f xs (t || f x) e)
+
+pub none-any : {A : Type 0} (f : A → Bool) (xs : List A) → All (λ x. f x ≡ false) xs → anyFrom false f xs ≡ false
+none-any f [] a = refl
+none-any f (x ∷ xs) a = rw (a .0) (none-any f xs (a .1))
+
+any-true : {A : Type 0} (f : A → Bool) (xs : List A) → anyFrom true f xs ≡ true
+any-true f [] = refl
+any-true f (x ∷ xs) = any-true f xs
+
+pub any-one : (f : ℕ → Bool) (is : List ℕ) (t : Bool) (i : ℕ) → member i is ≡ true → f i ≡ true → anyFrom t f is ≡ true
+any-one f [] t i m e = no-way (sym m)
+any-one f (j ∷ is) t i m e = go (eqb i j) refl m (any-one f is (t || f j) i)
+  where
+    go : (s : Bool) → eqb i j ≡ s → (s || member i is) ≡ true → (member i is ≡ true → f i ≡ true → anyFrom (t || f j) f is ≡ true) → anyFrom (t || f j) f is ≡ true
+    go true q h k =
+        let g : f j ≡ true = ap f (sym (eqb-true i j q)) ∙ e in
+        rw (g, or-true t) (any-true f is)
+    go false q h k = k h e
+
+-- ── the first that applies ─────────────────────────────────────────────────────────────────────────────────────────
+-- none applies
+abbrev pub Passed : List Row → Type 0
+Passed rows = All (λ row. row .0 ≡ false) rows
+
+pub passed : {A : Type 0} (a : A) (rows : List Row) → Passed rows → firstOf rows a ≡ given a
+passed a [] t = refl
+passed a (row ∷ rows) t = rw (t .0) (passed a rows (t .1))
+
+pub accepted : {A : Type 0} (a b : A) (rows : List Row) → firstOf rows a ≡ given b → Passed rows × (a ≡ b)
+accepted a b [] e = (tt, cc)
+accepted a b (row ∷ rows) e = go (row .0) refl e (accepted a b rows)
+  where
+    go : (t : Bool) → row .0 ≡ t → cond t (refused (row .1)) (firstOf rows a) ≡ given b → (firstOf rows a ≡ given b → Passed rows × (a ≡ b)) →
+        ((row .0 ≡ false) × Passed rows) × (a ≡ b)
+    go true q h k = absurd (let z : _≡_ {A = ℕ} 0 1 = cc in omega arith)
+    go false q h k = let r = k h in ((q, r .0), r .1)
+
+-- the answer where one more row applies: that row's number, or an earlier one's
+module _ {A : Type 0} (a b : A) (n : ℕ) where
+  later : (rows : List Row) → every (λ row. ltb n (row .1)) rows ≡ true → sooner (firstOf rows a) n ≡ n
+  later [] e = refl
+  later (row ∷ rows) e = go (row .0) (later rows (and-right (ltb n (row .1)) _ e))
+    where
+      go : (t : Bool) → sooner (firstOf rows a) n ≡ n → sooner (cond t (refused (row .1)) (firstOf rows a)) n ≡ n
+      go true k = let l = ltb-true n (row .1) (and-left (ltb n (row .1)) _ e) in rw (le-ltb (row .1) n (omega arith))
+      go false k = k
+
+  pub one-more : (before rest after : List Row) → every (λ row. ltb (row .1) n) before ≡ true → every (λ row. ltb n (row .1)) after ≡ true →
+      firstOf (before ++ ((true, n) ∷ rest)) b ≡ refused (sooner (firstOf (before ++ ((false, n) ∷ after)) a) n)
+  one-more [] rest after e h = ap refused (sym (later after h))
+  one-more (row ∷ before) rest after e h = go (row .0) (one-more before rest after (and-right (ltb (row .1) n) _ e) h)
+    where
+      go : (t : Bool) → firstOf (before ++ ((true, n) ∷ rest)) b ≡ refused (sooner (firstOf (before ++ ((false, n) ∷ after)) a) n) →
+          cond t (refused (row .1)) (firstOf (before ++ ((true, n) ∷ rest)) b)
+          ≡ refused (sooner (cond t (refused (row .1)) (firstOf (before ++ ((false, n) ∷ after)) a)) n)
+      go true k = rw (and-left (ltb (row .1) n) _ e)
+      go false k = k

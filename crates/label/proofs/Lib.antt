@@ -1,0 +1,10 @@
+pub mod Every
+pub mod Tests
+pub mod Rows
+pub mod Puts
+pub mod Digits
+pub mod Nibbles
+pub mod Places
+pub mod Round
+pub mod Damage
+pub mod Proved

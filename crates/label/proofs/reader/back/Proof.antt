@@ -1,0 +1,19 @@
+-- `back` is the number of two data bits.
+use borrow.Author.Needs.{needs}
+use native.Mathlib.Omega.{arith}
+use Rattle.hamming.specs.Byte.{D}
+use Rattle.label.proofs.reader.back.Statement.{statement}
+use Rattle.label.proofs.reader.back.Tie as tie
+
+mul-result : tie.Need-mul-result
+mul-result c = search needs
+
+add-result : tie.Need-add-result
+add-result c = search needs
+
+returns : tie.Need-returns
+unfolding D
+returns c = (omega arith, omega arith)
+
+pub back-spec : {M : Type 1} → statement M
+back-spec = tie.close (tie.spec mul-result add-result returns)

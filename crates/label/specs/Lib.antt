@@ -1,0 +1,4 @@
+pub mod Layout
+pub mod Packet
+pub mod Pil
+pub mod Laws

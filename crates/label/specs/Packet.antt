@@ -1,0 +1,122 @@
+-- Packet 8/30 format 2 (document 01, 'Packet layout' and the table of refusals): what the reader gives, and what the writer leaves.
+use Prim.Native.Nat.{ℕ, _^_}
+use mathlib.Core.Bool.{Bool, true, false, cond, not, _&&_, _||_}
+use mathlib.Core.List.{List, [], _∷_}
+use lib.Dec.{leb, eqb}
+use lib.ListN.{length, getD, set}
+use Rattle.hamming.specs.Answer.{Answer, refused, given, Row, firstOf}
+use Rattle.hamming.specs.Byte.{good, nibbleOf}
+use Rattle.hamming.specs.declared.Nibble.{Nibble}
+use Rattle.hamming.specs.declared.Nibble.the-variants.{Damaged, Value}
+use Rattle.label.specs.declared.Label.{Label}
+use Rattle.label.specs.declared.Refusal.{Refusal}
+use Rattle.label.specs.declared.Refusal.the-variants.{Length, AddressDamaged, OtherPacket, DesignationDamaged, OtherDesignation, LabelDamaged}
+use Rattle.label.specs.declared.Reading.{Reading}
+use Rattle.label.specs.declared.Reading.the-variants.{Refused, Read}
+use Rattle.label.specs.declared.Written.{Written}
+use Rattle.label.specs.declared.Written.the-variants.{WrongLength, TooWide, Done}
+use Rattle.label.specs.Layout.{Field, fields, positions, fieldOf, labelBy, fieldBy, sentIn}
+
+-- ── the bytes ──────────────────────────────────────────────────────────────────────────────────────────────────────
+-- 'bytes 9 to 21: thirteen Hamming bytes'
+abbrev pub labelBytes : List ℕ
+labelBytes = 9 ∷ 10 ∷ 11 ∷ 12 ∷ 13 ∷ 14 ∷ 15 ∷ 16 ∷ 17 ∷ 18 ∷ 19 ∷ 20 ∷ 21 ∷ []
+
+-- the sixteen bytes that are read and written: address, designation and label
+abbrev pub hammingBytes : List ℕ
+hammingBytes = 0 ∷ 1 ∷ 2 ∷ labelBytes
+
+abbrev pub nibbleAt : List ℕ → ℕ → Nibble
+nibbleAt p i = nibbleOf (getD p i 0)
+
+abbrev pub damaged : Nibble → Bool
+damaged Damaged = true
+damaged (Value v) = false
+
+abbrev pub damagedAt : List ℕ → ℕ → Bool
+damagedAt p i = damaged (nibbleAt p i)
+
+-- a damaged byte has no value, and 16 stands for it
+abbrev pub valueOf : Nibble → ℕ
+valueOf Damaged = 16
+valueOf (Value v) = v
+
+abbrev pub valueAt : List ℕ → ℕ → ℕ
+valueAt p i = valueOf (nibbleAt p i)
+
+abbrev pub anyFrom : {A : Type 0} → Bool → (A → Bool) → List A → Bool
+anyFrom t f [] = t
+anyFrom t f (x ∷ xs) = anyFrom (t || f x) f xs
+
+-- one of the listed passes the test
+abbrev pub any : {A : Type 0} → (A → Bool) → List A → Bool
+any f xs = anyFrom false f xs
+
+-- 'designation, 2 or 3 for format 2'
+abbrev pub format2 : ℕ → Bool
+format2 d = eqb d 2 || eqb d 3
+
+-- ── the reader ─────────────────────────────────────────────────────────────────────────────────────────────────────
+-- 'reader: 1 to 6'
+abbrev pub readerRows : List ℕ → List Row
+readerRows p =
+    (not (eqb (length p) 42), 1)  -- length not 42
+    ∷ (damagedAt p 0 || damagedAt p 1, 2)  -- byte 0 or 1 damaged
+    ∷ (not (eqb (valueAt p 0) 0 && eqb (valueAt p 1) 15), 3)  -- not 8/30
+    ∷ (damagedAt p 2, 4)  -- byte 2 damaged
+    ∷ (not (format2 (valueAt p 2)), 5)  -- designation not 2 or 3
+    ∷ (any (damagedAt p) labelBytes, 6)  -- one of bytes 9 to 21 damaged
+    ∷ []
+
+-- 'the reader gives all fields and the designation'
+abbrev pub labelIn : List ℕ → Label
+labelIn p = labelBy (fieldBy (valueAt p))
+
+unfoldable pub readingOf : List ℕ → Answer Label
+readingOf p = firstOf (readerRows p) (labelIn p)
+
+-- the paper's numbers
+abbrev pub refusalNumber : Refusal → ℕ
+refusalNumber Length = 1
+refusalNumber AddressDamaged = 2
+refusalNumber OtherPacket = 3
+refusalNumber DesignationDamaged = 4
+refusalNumber OtherDesignation = 5
+refusalNumber LabelDamaged = 6
+
+abbrev pub readingAnswer : Reading → Answer Label
+readingAnswer (Refused r) = refused (refusalNumber r)
+readingAnswer (Read l) = given l
+
+-- ── the writer ─────────────────────────────────────────────────────────────────────────────────────────────────────
+abbrev pub tooWide : Label → Field → Bool
+tooWide l f = leb (2 ^ length (positions f)) (fieldOf f l)
+
+-- 'a field wider than its bits, or designation not 2 or 3'
+abbrev pub unfit : Label → Bool
+unfit l = any (tooWide l) fields || not (format2 (l .designation))
+
+-- 'writer: 1, 16'
+abbrev pub writerRows : Label → List ℕ → List Row
+writerRows l p = (not (eqb (length p) 42), 1) ∷ (unfit l, 16) ∷ []
+
+-- the value that is sent in a byte: 'magazine 8, packet 30 is the values 0 and 15', and the label's bits in the others
+abbrev pub valueFor : Label → ℕ → ℕ
+valueFor l i = cond (eqb i 0) 0 (cond (eqb i 1) 15 (sentIn l i))
+
+unfoldable pub byteFor : Label → ℕ → ℕ
+byteFor l i = good (valueFor l i)
+
+-- a list with the elements at the listed places made anew
+abbrev pub put : (ℕ → ℕ) → List ℕ → List ℕ → List ℕ
+put f [] p = p
+put f (i ∷ is) p = put f is (set p i (f i))
+
+-- 'writes bytes 0 to 2 and 9 to 21, and touches no other byte'
+unfoldable pub writingOf : Label → List ℕ → Answer (List ℕ)
+writingOf l p = firstOf (writerRows l p) (put (byteFor l) hammingBytes p)
+
+abbrev pub writtenNumber : Written → ℕ
+writtenNumber WrongLength = 1
+writtenNumber TooWide = 16
+writtenNumber Done = 0

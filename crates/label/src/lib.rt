@@ -1,0 +1,50 @@
+// Packet 8/30 format 2 of EN 300 231, and the label that it carries.
+ghost use mathlib.Core.Path.{_≡_};
+ghost use mathlib.Core.Bool.{true};
+ghost use Rattle.label.specs.Laws.{Laws};
+
+pub mod pil; // the parts of a PIL, and the service codes
+pub mod reader; // from bytes to a label
+pub mod writer; // from a label to bytes
+
+pub struct Label {
+    pub designation: u8,
+    pub lci: u8,
+    pub luf: u8,
+    pub prf: u8,
+    pub pcs: u8,
+    pub mi: u8,
+    pub spare: u8,
+    pub cni: u16,
+    pub pil: u32,
+    pub pty: u8,
+}
+
+// Why a packet is not read: refusals 1 to 6.
+pub enum Refusal {
+    Length,
+    AddressDamaged,
+    OtherPacket,
+    DesignationDamaged,
+    OtherDesignation,
+    LabelDamaged,
+}
+
+pub enum Reading {
+    Refused(Refusal),
+    Read(Label),
+}
+
+// What became of a label to be written: refusals 1 and 16, or the bytes.
+pub enum Written {
+    WrongLength,
+    TooWide,
+    Done,
+}
+
+// The laws of packet and PIL, as a promise of the crate.
+pub fn lawful() -> bool
+    ensures { λ r. ⌜ (r ≡ true) × Laws ⌝ }
+{
+    true
+}

@@ -1,0 +1,152 @@
+// What tests and benchmarks in another language link: a few calls over numbers and bytes. None asks anything of its caller.
+ghost use mathlib.Core.Path.{_≡_};
+ghost use Prim.Native.Nat.{_*_, _+_};
+ghost use Rattle.hamming.specs.Answer.{number, after};
+ghost use Rattle.hamming.specs.Byte.{nibbleOf, codingOf};
+ghost use Rattle.label.specs.Packet.{valueOf, refusalNumber};
+ghost use Rattle.label.specs.Pil.{serviceOf};
+ghost use lib.ListN.{length};
+ghost use Rattle.probe.specs.Plain.{byteOr, fieldBytes, labelOf, readInto, writeFrom, serviceNumber};
+use hamming::Coded;
+use hamming::Nibble;
+use label::Label;
+use label::Reading;
+use label::Refusal;
+use label::Written;
+use label::pil::Service;
+
+// The value, and 16 for a damaged byte.
+#[no_mangle]
+pub extern "C" fn probe_decode(b: u8) -> u8
+    ensures { λ r. ⌜ r ≡ valueOf (nibbleOf b) ⌝ }
+{
+    let n = hamming::decode(b);
+    match n {
+        Nibble::Damaged => 16,
+        Nibble::Value(v) => v,
+    }
+}
+
+#[no_mangle]
+pub extern "C" fn probe_encode(v: u8) -> u16
+    ensures { λ r. ⌜ r ≡ byteOr (codingOf v) ⌝ }
+{
+    let c = hamming::encode(v);
+    match c {
+        Coded::TooWide => 4096,
+        Coded::Byte(b) => b as u16,
+    }
+}
+
+fn number_of(r: Refusal) -> u8
+    ensures { λ n. ⌜ n ≡ refusalNumber r ⌝ }
+{
+    match r {
+        Refusal::Length => 1,
+        Refusal::AddressDamaged => 2,
+        Refusal::OtherPacket => 3,
+        Refusal::DesignationDamaged => 4,
+        Refusal::OtherDesignation => 5,
+        Refusal::LabelDamaged => 6,
+    }
+}
+
+fn fill(l: Label, out: &mut [u8])
+    requires { ⌜ length (now out) ≡ 13 ⌝ }
+    ensures { λ r. ⌜ now (out .exit) ≡ fieldBytes l ⌝ }
+{
+    out[0] = l.designation;
+    out[1] = l.lci;
+    out[2] = l.luf;
+    out[3] = l.prf;
+    out[4] = l.pcs;
+    out[5] = l.mi;
+    out[6] = l.spare;
+    out[7] = (l.cni / 256 % 256) as u8;
+    out[8] = (l.cni % 256) as u8;
+    out[9] = (l.pil / 65536 % 256) as u8;
+    out[10] = (l.pil / 256 % 256) as u8;
+    out[11] = (l.pil % 256) as u8;
+    out[12] = l.pty;
+}
+
+#[no_mangle]
+pub extern "C" fn probe_read(bytes: &[u8], out: &mut [u8]) -> u8
+    ensures { λ r. ⌜ (r ≡ number (readInto (now (bytes .entry)) (now (out .entry)))) × (now (out .exit) ≡ after (now (out .entry)) (readInto (now (bytes .entry)) (now (out .entry)))) ⌝ }
+{
+    if out.len() != 13 {
+        return 1;
+    }
+    let r = label::reader::read(bytes);
+    match r {
+        Reading::Refused(why) => number_of(why),
+        Reading::Read(l) => {
+            fill(l, out);
+            0
+        }
+    }
+}
+
+// Numbers from their bytes, the high byte first.
+fn pair(high: u8, low: u8) -> u16
+    ensures { λ r. ⌜ r ≡ high * 256 + low ⌝ }
+{
+    high as u16 * 256 + low as u16
+}
+
+fn triple(high: u8, middle: u8, low: u8) -> u32
+    ensures { λ r. ⌜ r ≡ high * 65536 + middle * 256 + low ⌝ }
+{
+    high as u32 * 65536 + middle as u32 * 256 + low as u32
+}
+
+fn label_of(f: &[u8]) -> Label
+    requires { ⌜ length (now f) ≡ 13 ⌝ }
+    ensures { λ r. ⌜ r ≡ labelOf (now (f .entry)) ⌝ }
+{
+    let cni = pair(f[7], f[8]);
+    let pil = triple(f[9], f[10], f[11]);
+    Label {
+        designation: f[0],
+        lci: f[1],
+        luf: f[2],
+        prf: f[3],
+        pcs: f[4],
+        mi: f[5],
+        spare: f[6],
+        cni: cni,
+        pil: pil,
+        pty: f[12],
+    }
+}
+
+#[no_mangle]
+pub extern "C" fn probe_write(fields: &[u8], buf: &mut [u8]) -> u8
+    ensures { λ r. ⌜ (r ≡ number (writeFrom (now (fields .entry)) (now (buf .entry)))) × (now (buf .exit) ≡ after (now (buf .entry)) (writeFrom (now (fields .entry)) (now (buf .entry)))) ⌝ }
+{
+    if fields.len() != 13 {
+        return 1;
+    }
+    let l = label_of(fields);
+    let w = label::writer::write(l, buf);
+    match w {
+        Written::WrongLength => 1,
+        Written::TooWide => 16,
+        Written::Done => 0,
+    }
+}
+
+#[no_mangle]
+pub extern "C" fn probe_service(pil: u32) -> u8
+    ensures { λ r. ⌜ r ≡ serviceNumber (serviceOf pil) ⌝ }
+{
+    let s = label::pil::service_of(pil);
+    match s {
+        Service::Programme => 0,
+        Service::TimerControl => 1,
+        Service::InhibitTerminate => 2,
+        Service::Interruption => 3,
+        Service::Continuation => 4,
+        Service::NoSpecificValue => 5,
+    }
+}

@@ -1,0 +1,59 @@
+//! libzvbi: a reader that nobody here wrote.
+use std::os::raw::{c_int, c_uint, c_void};
+
+#[repr(C)]
+struct ProgramId {
+    channel: c_uint,
+    cni_type: c_uint,
+    cni: c_uint,
+    pil: c_uint,
+    luf: c_int,
+    mi: c_int,
+    prf: c_int,
+    pcs_audio: c_uint,
+    pty: c_uint,
+    tape_delayed: c_int,
+    reserved2: [*mut c_void; 2],
+    reserved3: [c_int; 4],
+}
+
+extern "C" {
+    static _vbi_hamm8_inv: [i8; 256];
+    fn vbi_decode_teletext_8302_pdc(pid: *mut ProgramId, buffer: *const u8) -> c_int;
+}
+
+/// `vbi_unham8`, which is this look into a table.
+pub fn unham8(b: u8) -> Option<u8> {
+    let v = unsafe { _vbi_hamm8_inv[b as usize] };
+    u8::try_from(v).ok()
+}
+
+/// What libzvbi gives of a label: it has neither the spare bit nor the designation.
+#[derive(Clone, Copy, Debug, PartialEq, Eq)]
+pub struct Pid {
+    pub lci: u8,
+    pub luf: u8,
+    pub prf: u8,
+    pub pcs: u8,
+    pub mi: u8,
+    pub cni: u16,
+    pub pil: u32,
+    pub pty: u8,
+}
+
+pub fn read(packet: &[u8; 42]) -> Option<Pid> {
+    let mut p: ProgramId = unsafe { std::mem::zeroed() };
+    if unsafe { vbi_decode_teletext_8302_pdc(&mut p, packet.as_ptr()) } == 0 {
+        return None;
+    }
+    Some(Pid {
+        lci: p.channel as u8,
+        luf: p.luf as u8,
+        prf: p.prf as u8,
+        pcs: p.pcs_audio as u8,
+        mi: p.mi as u8,
+        cni: p.cni as u16,
+        pil: p.pil,
+        pty: p.pty as u8,
+    })
+}
