@@ -1,5 +1,5 @@
 -- The values of bytes, and their four data bits.
-use Prim.Native.Nat.{ℕ, _<_, _%_, _+_, _*_}
+use Prim.Native.Nat.{ℕ, _<_, _%_}
 use mathlib.Core.Path.{_≡_, refl, sym, ap, _∙_}
 use mathlib.Core.List.{[], _∷_}
 use native.Mathlib.Omega.{arith}

@@ -6,10 +6,9 @@ use mathlib.Core.List.{List, [], _∷_, _++_}
 use native.Mathlib.Omega.{arith}
 use borrow.Author.Tests.{eqb-true, eqb-false}
 use lib.Dec.{eqb}
-use lib.ListN.{length, getD, set, replicate, length-set}
+use lib.ListN.{length, getD, set, length-set}
 use lib.Seq.{getD-set-same, getD-set-other, lt-length-set}
-use Rattle.label.specs.Layout.{labelBy, fieldBy}
-use Rattle.label.specs.Packet.{put, any, anyFrom, valueAt, labelBytes, labelIn}
+use Rattle.label.specs.Packet.{put, any, anyFrom}
 use Rattle.label.specs.Laws.{member}
 use Rattle.label.proofs.Every.{All, no-way, or-left, or-right}
 
@@ -72,7 +71,3 @@ put-run f a i h p e g = stored i e g ∙ sym (put-more f (run a (i - a)) i p) �
 
 pub any-run : (f : ℕ → Bool) (a i : ℕ) → a ≤ i → {t b : Bool} → t ≡ any f (run a (i - a)) → b ≡ f i → t || b ≡ any f (run a (i + 1 - a))
 any-run f a i h e g = ap₂ (λ (x : Bool) (y : Bool). x || y) e g ∙ sym (any-more f (run a (i - a)) i _) ∙ ap (any f) (sym (run-more a i h))
-
--- the array that is read has the fields of its packet
-pub gathered : (p at : List ℕ) {d : ℕ} → d ≡ valueAt p 2 → at ≡ put (valueAt p) labelBytes (set (replicate 22 0) 2 d) → labelBy (fieldBy (λ i. getD at i 0)) ≡ labelIn p
-gathered p at h e = rw (e, h)

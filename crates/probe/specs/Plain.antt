@@ -5,6 +5,7 @@ use mathlib.Core.List.{List, [], _∷_}
 use lib.Dec.{eqb}
 use lib.ListN.{length, getD}
 use Rattle.hamming.specs.Answer.{Answer, refused, given, firstOf, andThen}
+use Rattle.calendar.specs.declared.Window.{Window}
 use Rattle.label.specs.declared.Label.{Label}
 use Rattle.label.specs.declared.pil.Service.{Service}
 use Rattle.label.specs.declared.pil.Service.the-variants.{Programme, TimerControl, InhibitTerminate, Interruption, Continuation, NoSpecificValue}
@@ -58,3 +59,8 @@ serviceNumber InhibitTerminate = 2
 serviceNumber Interruption = 3
 serviceNumber Continuation = 4
 serviceNumber NoSpecificValue = 5
+
+-- a window as one number, or the number of a refusal
+abbrev pub windowOr : Answer Window → ℕ
+windowOr (refused n) = n
+windowOr (given w) = w .opens * 4294967296 + w .closes

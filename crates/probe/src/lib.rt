@@ -5,8 +5,10 @@ ghost use Rattle.hamming.specs.Answer.{number, after};
 ghost use Rattle.hamming.specs.Byte.{nibbleOf, codingOf};
 ghost use Rattle.label.specs.Packet.{valueOf, refusalNumber};
 ghost use Rattle.label.specs.Pil.{serviceOf};
+ghost use Rattle.calendar.specs.Calendar.{windowIn};
 ghost use lib.ListN.{length};
-ghost use Rattle.probe.specs.Plain.{byteOr, fieldBytes, labelOf, readInto, writeFrom, serviceNumber};
+ghost use Rattle.probe.specs.Plain.{byteOr, fieldBytes, labelOf, readInto, writeFrom, serviceNumber, windowOr};
+use calendar::Validity;
 use hamming::Coded;
 use hamming::Nibble;
 use label::Label;
@@ -148,5 +150,17 @@ pub extern "C" fn probe_service(pil: u32) -> u8
         Service::Interruption => 3,
         Service::Continuation => 4,
         Service::NoSpecificValue => 5,
+    }
+}
+
+// The window as two numbers of thirty-two bits, the opening first, or the refusal's number, which no window is.
+#[no_mangle]
+pub extern "C" fn probe_window(pil: u32, year: u8) -> u64
+    ensures { λ r. ⌜ r ≡ windowOr (windowIn pil year) ⌝ }
+{
+    let v = calendar::window_of(pil, year);
+    match v {
+        Validity::Refused => 11,
+        Validity::Given(w) => w.opens as u64 * 4294967296 + w.closes as u64,
     }
 }

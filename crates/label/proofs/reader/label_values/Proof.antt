@@ -1,5 +1,5 @@
--- `label_values` goes through bytes 9 to 21. The invariant: the bytes before i are in the array with their values, each at its own place, and one of
--- them being damaged has been noted.
+-- `label_values` goes through bytes 9 to 21. The invariant: the values of the bytes from 9 up to i stand in the array, each at its byte's number,
+-- and `damaged` says whether one of these bytes is damaged.
 use borrow.Author.Needs.{needs}
 use Prim.Native.Nat.{ℕ, _-_, _≤_}
 use mathlib.Core.Path.{_≡_, refl, ap, _∙_}
@@ -12,6 +12,7 @@ use Rattle.label.proofs.Puts.{run, put-run, any-run}
 use Rattle.label.proofs.reader.label_values.Statement.{statement}
 use Rattle.label.proofs.reader.label_values.Tie as tie
 
+-- the array before the loop
 abbrev start : ℕ → List ℕ
 start designation = set (replicate 22 0) 2 designation
 

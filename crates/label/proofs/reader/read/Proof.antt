@@ -1,4 +1,4 @@
--- `read` refuses by the first row that applies: each of its tests is that of a row.
+-- `read` refuses by the first row that applies, each of its tests being that of a row; past them the label is that of the array of values.
 use borrow.Author.Needs.{needs}
 use Prim.Native.Nat.{ℕ}
 use mathlib.Core.Path.{_≡_, sym, ap, ap₂, _∙_}
@@ -6,11 +6,11 @@ use mathlib.Core.Bool.{Bool, true, not, _&&_, _||_}
 use mathlib.Core.List.{List}
 use borrow.Author.Tests.{lt-ltb, le-ltb}
 use lib.Dec.{ltb, eqb}
-use lib.ListN.{getD}
+use lib.ListN.{getD, set, replicate}
 use Rattle.hamming.specs.Answer.{refused, given}
-use Rattle.label.specs.Packet.{readerRows, readingOf, labelIn, format2}
+use Rattle.label.specs.Layout.{labelBy, fieldBy}
+use Rattle.label.specs.Packet.{readerRows, readingOf, labelIn, format2, valueAt, labelBytes, put}
 use Rattle.label.proofs.Nibbles.{over}
-use Rattle.label.proofs.Puts.{gathered}
 use Rattle.label.proofs.Rows.{Passed, testAt, numberAt, refused-at, given-past, that-length, other-length}
 use Rattle.label.proofs.reader.read.Statement.{statement}
 use Rattle.label.proofs.reader.read.Tie as tie
@@ -67,6 +67,11 @@ passed-6 c = (passed-5 (c .before .before), sym (c .before .label-values .ensure
 by : (k : ℕ) (p : List ℕ) → Passed k (readerRows p) → testAt k (readerRows p) ≡ true → refused (numberAt k (readerRows p)) ≡ readingOf p
 unfolding readingOf
 by k p h e = refused-at k (readerRows p) (labelIn p) h e
+
+-- the array of the values has the fields of the packet
+gathered : (p at : List ℕ) {d : ℕ} → d ≡ valueAt p 2 → at ≡ put (valueAt p) labelBytes (set (replicate 22 0) 2 d) →
+    labelBy (fieldBy (λ i. getD at i 0)) ≡ labelIn p
+gathered p at h e = rw (e, h)
 
 returns : tie.Need-returns
 returns c = by 0 (packet (c .before .before)) tt (other-length (packet (c .before .before)) (c .if1 .taken))
