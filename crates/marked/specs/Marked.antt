@@ -1,14 +1,20 @@
 -- The marked examples of document 01: what the definitions give, beside what the paper says. Proved in proofs/lawful/Proof.antt.
-use Prim.Native.Nat.{ℕ, _+_, _*_}
+use Prim.Native.Nat.{ℕ, _+_, _-_, _*_}
+use mathlib.Core.Bool.{Bool, true, false}
 use mathlib.Core.Path.{_≡_}
 use mathlib.Core.List.{List, [], _∷_, _++_, map}
-use lib.ListN.{replicate}
-use Rattle.hamming.specs.Answer.{Answer, refused, given}
+use lib.ListN.{replicate, getD}
+use Rattle.hamming.specs.Answer.{Answer, refused, given, after}
 use Rattle.hamming.specs.Byte.{nibbleOf}
 use Rattle.calendar.specs.declared.Window.{Window}
 use Rattle.calendar.specs.Calendar.{closesAt, windowIn}
 use Rattle.label.specs.declared.Label.{Label}
-use Rattle.label.specs.Packet.{valueOf, readingOf}
+use Rattle.label.specs.Packet.{valueOf, readingOf, writingOf}
+use Rattle.rule.specs.Rule.{noLabel, stands}
+use Rattle.rule.specs.declared.Booking.{Booking}
+use Rattle.desk.specs.Moments.{fresh, liveCount}
+use Rattle.desk.specs.Calls.{Says, askOf}
+use Rattle.history.specs.Run.{Call, packet, wait, add, ask, live, answersOf, reached}
 
 pub record Example : Type 0 where
   pub gives : List ℕ
@@ -38,6 +44,77 @@ windowOr (given w) = w .opens ∷ w .closes ∷ []
 abbrev pub isDamaged : ℕ
 isDamaged = 16
 
+-- a label as it is sent, in 42 bytes
+abbrev pub sent : Label → List ℕ
+sent l = after (replicate 42 0) (writingOf l (replicate 42 0))
+
+-- the programme of these examples: announced for 02:30 of the clock's first day, so that its window is open from 0 on
+abbrev pub pilHere : ℕ
+pilHere = pilOf 1 1 2 30
+
+abbrev pub here : Booking
+here = record { cni = 0x1D65; pil = pilHere; year = 0 }
+
+abbrev pub labelWith : ℕ → ℕ → ℕ → Label
+labelWith pil prf mi = record { designation = 2; lci = 0; luf = 0; prf = prf; pcs = 0; mi = mi; spare = 0; cni = 0x1D65; pil = pil; pty = 0 }
+
+abbrev pub labelHere : Label
+labelHere = labelWith pilHere 0 0
+
+-- the second of the examples
+abbrev pub t : ℕ
+t = 50
+
+-- day 0, month 15, minute 63: hour 30 is RI/T, 28 continuation
+abbrev pub inhibitTerminate : ℕ
+inhibitTerminate = pilOf 0 15 30 63
+
+abbrev pub continuation : ℕ
+continuation = pilOf 0 15 28 63
+
+-- a recording with this MI, and RI/T at t
+abbrev pub stopped : ℕ → List Call
+stopped mi = add here ∷ packet 0 (t - 1) (sent (labelWith pilHere 0 mi)) ∷ packet 0 t (sent (labelWith inhibitTerminate 0 0)) ∷ []
+
+-- a label at t, and continuation n seconds later
+abbrev pub continued : ℕ → List Call
+continued n = packet 0 t (sent labelHere) ∷ packet 0 (t + n) (sent (labelWith continuation 0 0)) ∷ []
+
+abbrev pub bit : Bool → ℕ
+bit true = 1
+bit false = 0
+
+-- after these calls on a fresh desk: whether the label of place 0 stands at second s, how many timers are live, and what slot 0 says
+unfoldable pub standsAfter : List Call → ℕ → ℕ
+standsAfter cs s = bit (stands s (getD (reached cs .places) 0 noLabel))
+
+unfoldable pub liveAfter : List Call → ℕ
+liveAfter cs = liveCount (reached cs)
+
+abbrev pub saysOr : Answer Says → List ℕ
+saysOr (refused n) = n ∷ []
+saysOr (given s) = s .state ∷ s .place ∷ []
+
+unfoldable pub saysAfter : List Call → List ℕ
+saysAfter cs = saysOr (askOf 0 (reached cs))
+
+-- the calls of the sheet, with questions between them
+abbrev pub takenOver : List Call
+takenOver =
+    add (record { cni = 0x1D65; pil = 0x7BCDE; year = 2 })
+    ∷ packet 0 0x04C5DF38 packetA ∷ live ∷ packet 4 0x04C5DF3D packetA ∷ live
+    ∷ wait 0x04C5DF42 ∷ ask 0 ∷ packet 1 0x04C5DF42 packetA ∷ ask 0 ∷ live ∷ []
+
+-- answers as numbers: a refusal's, what is told, or 0
+abbrev pub plain : Answer (List ℕ) → List ℕ
+plain (refused n) = n ∷ []
+plain (given []) = 0 ∷ []
+plain (given (n ∷ ns)) = n ∷ ns
+
+abbrev pub plainly : List (Answer (List ℕ)) → List ℕ
+plainly [] = []
+plainly (a ∷ rest) = plain a ++ plainly rest
+
 unfoldable pub examples : List Example
 examples =
     -- 1. 'in hex, bytes 15 and 14 have value 0; 16 is damaged'
@@ -60,6 +137,30 @@ examples =
     ∷ record { gives = windowOr (windowIn (pilOf 1 1 2 30) 0); paper = 0 ∷ 100800 ∷ [] }
     -- 7. '31 December 2099, 20:00 closes at 3,155,774,400'
     ∷ record { gives = closesAt (pilOf 31 12 20 0) 99 ∷ []; paper = 3155774400 ∷ [] }
+    -- 8. 'a label stamped t stands at t+5, not at t+6'
+    ∷ record {
+      gives = standsAfter (packet 0 t (sent labelHere) ∷ []) (t + 5) ∷ standsAfter (packet 0 t (sent labelHere) ∷ []) (t + 6) ∷ [];
+      paper = 1 ∷ 0 ∷ [];
+    }
+    -- 9. 'RI/T at t over a recording with MI 0, nothing else matching and the window open throughout: live at t+29, not at t+30; with MI 1 not
+    -- live at t'; the recording started a second before
+    ∷ record {
+      gives = liveAfter (stopped 0 ++ wait (t + 29) ∷ []) ∷ liveAfter (stopped 0 ++ wait (t + 30) ∷ []) ∷ liveAfter (stopped 1) ∷ [];
+      paper = 1 ∷ 0 ∷ 0 ∷ [];
+    }
+    -- 10. 'continuation at t+5 keeps a label to t+10; at t+6 it does nothing'
+    ∷ record {
+      gives = standsAfter (continued 5) (t + 10) ∷ standsAfter (continued 5) (t + 11) ∷ standsAfter (continued 6) (t + 6) ∷ [];
+      paper = 1 ∷ 0 ∷ 0 ∷ [];
+    }
+    -- 11. 'a timer not live, with a match of PRF 1 only: prepared, not live': state 1 is prepared
+    ∷ record {
+      gives = saysAfter (add here ∷ packet 0 t (sent (labelWith pilHere 1 0)) ∷ []) ++ (liveAfter (add here ∷ packet 0 t (sent (labelWith pilHere 1 0)) ∷ []) ∷ []);
+      paper = 1 ∷ 0 ∷ 0 ∷ [];
+    }
+    -- 12. 'the second tuner takes over the one copy from its run-on': between the packets the slot says 3, running on, at place 0, and after
+    -- the last 2, recording, at place 4; one timer is live throughout
+    ∷ record { gives = plainly (answersOf takenOver fresh); paper = 0 ∷ 0 ∷ 1 ∷ 8 ∷ 1 ∷ 10 ∷ 3 ∷ 0 ∷ 0 ∷ 2 ∷ 4 ∷ 1 ∷ [] }
     ∷ []
 
 -- the one statement

@@ -1,0 +1,60 @@
+-- Each exit is a row of the table, or the slot that is taken.
+use mathlib.Core.Path.{refl, sym, _∙_}
+use borrow.Author.Tests.{le-leb, lt-leb}
+use Rattle.desk.specs.Calls.{roomIn}
+use borrow.Author.Needs.{needs}
+use Rattle.desk.proofs.Desk.book.Statement.{statement}
+use Rattle.desk.proofs.Desk.book.Tie as tie
+
+returns : tie.Need-returns
+returns c = rw (le-leb _ _ (c .if1 .taken)) (refl, refl)
+
+any-holds-requires : tie.Need-any-holds-requires
+any-holds-requires c κs = search needs
+
+returns-2 : tie.Need-returns-2
+returns-2 c = let b = c .before in rw (lt-leb _ _ (b .before .before .if1 .left), ← b .any-holds .ensures, c .if2 .taken) (refl, refl)
+
+room-requires : tie.Need-room-requires
+room-requires c κs = search needs
+
+returns-3 : tie.Need-returns-3
+unfolding roomIn
+returns-3 c =
+    let r = c .before in
+    let b = r .before .before in
+    rw (lt-leb _ _ (b .before .before .if1 .left), ← b .any-holds .ensures, r .before .if2 .left, ← r .room .ensures .1, le-leb _ _ (c .if3 .taken)) (refl, refl)
+
+with-timer-requires : tie.Need-with-timer-requires
+with-timer-requires c κs = search needs
+
+moment-requires : tie.Need-moment-requires
+moment-requires c κs = search needs
+
+returns-4 : tie.Need-returns-4
+unfolding roomIn
+returns-4 c =
+    let r = c .before .before .before in
+    let b = r .before .before in
+    rw (
+      lt-leb _ _ (b .before .before .if1 .left),
+      ← b .any-holds .ensures,
+      r .before .if2 .left,
+      ← r .room .ensures .1,
+      lt-leb _ _ (c .before .before .if3 .left),
+      ← r .room .ensures .0,
+    )
+    (refl, rw (c .moment .ensures, c .before .with-timer .ensures))
+
+pub book-spec : {M : Type 1} → statement M
+book-spec =
+    tie.close
+    (tie.spec
+    returns
+    any-holds-requires
+    returns-2
+    room-requires
+    returns-3
+    with-timer-requires
+    moment-requires
+    returns-4)

@@ -1,0 +1,44 @@
+-- Each exit is a row of the table, or the freed slot.
+use mathlib.Core.Path.{refl}
+use Rattle.desk.specs.Calls.{cancelOf}
+use borrow.Author.Needs.{needs}
+use Rattle.desk.proofs.Desk.cancel.Statement.{statement}
+use Rattle.desk.proofs.Desk.cancel.Tie as tie
+
+timer-at-requires : tie.Need-timer-at-requires
+timer-at-requires c κs = search needs
+
+is-held-requires : tie.Need-is-held-requires
+is-held-requires c κs = search needs
+
+returns : tie.Need-returns
+unfolding cancelOf
+returns c = let b = c .before in rw (← b .before .timer-at .ensures, ← b .is-held .ensures, c .if1 .taken) (refl, refl)
+
+no-timer-requires : tie.Need-no-timer-requires
+no-timer-requires c κs = search needs
+
+with-timer-requires : tie.Need-with-timer-requires
+with-timer-requires c κs = search needs
+
+moment-requires : tie.Need-moment-requires
+moment-requires c κs = search needs
+
+returns-2 : tie.Need-returns-2
+unfolding cancelOf
+returns-2 c =
+    let n = c .before .before in
+    let b = n .before .before in
+    rw (← b .before .timer-at .ensures, ← b .is-held .ensures, n .before .if1 .left) (refl, rw (c .moment .ensures, c .before .with-timer .ensures, n .no-timer .ensures))
+
+pub cancel-spec : {M : Type 1} → statement M
+cancel-spec =
+    tie.close
+    (tie.spec
+    timer-at-requires
+    is-held-requires
+    returns
+    no-timer-requires
+    with-timer-requires
+    moment-requires
+    returns-2)

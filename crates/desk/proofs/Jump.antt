@@ -1,0 +1,187 @@
+-- A quiet desk stays quiet, and its seconds can be passed at once.
+use Prim.Native.Nat.{ℕ, zero, suc, _+_, _-_, _≤_}
+use mathlib.Core.Path.{_≡_, refl, ap, _∙_}
+use mathlib.Core.Bool.{Bool, true, false, cond, not, _&&_, true≢false}
+use mathlib.Core.List.{List, [], _∷_, map}
+use native.Mathlib.Nat.{zero-add, suc-add}
+use native.Mathlib.Omega.{arith}
+use borrow.Author.Tests.{leb-false, lt-leb, not-true}
+use lib.Dec.{leb}
+use lib.ListN.{getD, List·getD-map}
+use Rattle.calendar.proofs.Cases.{and-true, or-false}
+use Rattle.rule.specs.Rule.{noLabel, standFor, stands, endedAt, matches, nowhere, lowestFrom, some, sightOf, held, nextCopy, nextTimer, isLive, liveTimer}
+use Rattle.rule.specs.declared.Stamped.{Stamped}
+use Rattle.rule.specs.declared.Booking.{Booking}
+use Rattle.rule.specs.declared.Copy.{Copy}
+use Rattle.rule.specs.declared.Copy.the-variants.{Free, Waiting, Prepared, Recording, RunningOn}
+use Rattle.rule.specs.declared.Timer.{Timer}
+use Rattle.rule.specs.declared.Sight.the-variants.{Nothing}
+use Rattle.desk.specs.Moments.{noTimer, moment, clockedAt, nextSecond, walk, quiet, walkedIn}
+use Rattle.desk.specs.Calls.{timerAt}
+use Rattle.desk.specs.declared.Desk.{Desk}
+use Rattle.desk.proofs.Settle.{walk-keeps}
+
+-- ── a test that no element passes ──────────────────────────────────────────────────────────────────────────────────
+module _ {A : Type 0} (f : A → Bool) (z : A) where
+  abbrev pub None : List A → Type 0
+  None xs = (i : ℕ) → f (getD xs i z) ≡ false
+
+  pub some-none : f z ≡ false → (xs : List A) → some f xs ≡ false → None xs
+  some-none h [] e i = h
+  some-none h (x ∷ xs) e zero = or-false (f x) (some f xs) e .0
+  some-none h (x ∷ xs) e (suc i) = some-none h xs (or-false (f x) (some f xs) e .1) i
+
+  pub none-some : (xs : List A) → None xs → some f xs ≡ false
+  none-some [] n = refl
+  none-some (x ∷ xs) n = rw (n 0) (none-some xs (λ i. n (suc i)))
+
+  none-lowest : (i : ℕ) (xs : List A) → None xs → lowestFrom f i xs ≡ nowhere
+  none-lowest i [] n = refl
+  none-lowest i (x ∷ xs) n = rw (n 0) (none-lowest (suc i) xs (λ j. n (suc j)))
+
+-- ── a moment at which no label stands ──────────────────────────────────────────────────────────────────────────────
+abbrev pub NoneStands : ℕ → List Stamped → Type 0
+NoneStands s ls = None (stands s) noLabel ls
+
+pub none-stands-later : (s s′ : ℕ) (ls : List Stamped) → s ≤ s′ → NoneStands s ls → NoneStands s′ ls
+unfolding stands
+none-stands-later s s′ ls h n p = go (getD ls p noLabel) (n p)
+  where
+    go : (l : Stamped) → stands s l ≡ false → stands s′ l ≡ false
+    go l = by (l .heard)
+      where
+        by : (b : Bool) → (b && leb (s - l .stamp) standFor) ≡ false → (b && leb (s′ - l .stamp) standFor) ≡ false
+        by true e = let k = leb-false (s - l .stamp) standFor e in lt-leb (s′ - l .stamp) standFor (omega arith)
+        by false e = refl
+
+module _ (s : ℕ) (ls : List Stamped) (none : NoneStands s ls) (b : Booking) where
+  pub none-matches : None (matches s b) noLabel ls
+  unfolding matches
+  none-matches p = rw (none p)
+
+  none-sight : sightOf s ls b ≡ Nothing
+  unfolding sightOf
+  none-sight =
+      rw (none-lowest (λ l. matches s b l && not (l .prf)) noLabel 0 ls (λ p. rw (none-matches p)))
+      (rw (none-some (λ l. matches s b l && l .prf) noLabel ls (λ p. rw (none-matches p))))
+
+-- what a copy that is not live becomes, held or free
+abbrev rested : Bool → Copy
+rested h = cond h Waiting Free
+
+rested-dead : (h : Bool) → isLive (rested h) ≡ false
+rested-dead true = refl
+rested-dead false = refl
+
+rested-held : (h : Bool) → held (rested h) ≡ h
+rested-held true = refl
+rested-held false = refl
+
+cond-same : {A : Type 0} (t : Bool) (x : A) → cond t x x ≡ x
+cond-same true x = refl
+cond-same false x = refl
+
+nextCopy-rested : (s : ℕ) (ls : List Stamped) → NoneStands s ls → (b : Booking) (c : Copy) → isLive c ≡ false → nextCopy s ls b c ≡ rested (held c)
+unfolding nextCopy
+nextCopy-rested s ls n b Free e = refl
+nextCopy-rested s ls n b Waiting e = rw (none-sight s ls n b) (cond-same (endedAt s b) Waiting)
+nextCopy-rested s ls n b Prepared e = rw (none-sight s ls n b) (cond-same (endedAt s b) Waiting)
+nextCopy-rested s ls n b (Recording p mi) e = absurd (true≢false e)
+nextCopy-rested s ls n b (RunningOn p v) e = absurd (true≢false e)
+
+-- of two moments at which no label stands the later one is enough
+module _ (s s′ : ℕ) (ls : List Stamped) (n : NoneStands s ls) (n′ : NoneStands s′ ls) where
+  nextCopy-skip : (b : Booking) (c : Copy) → isLive c ≡ false → nextCopy s′ ls b (nextCopy s ls b c) ≡ nextCopy s′ ls b c
+  nextCopy-skip b c e =
+      rw (
+        nextCopy-rested s ls n b c e,
+        nextCopy-rested s′ ls n′ b (rested (held c)) (rested-dead (held c)),
+        nextCopy-rested s′ ls n′ b c e,
+        rested-held (held c),
+      )
+
+  skip : (ts : List Timer) → None liveTimer noTimer ts → map (nextTimer s′ ls) (map (nextTimer s ls) ts) ≡ map (nextTimer s′ ls) ts
+  unfolding nextTimer
+  skip [] h = refl
+  skip (t ∷ ts) h = rw (nextCopy-skip (t .booking) (t .copy) (h 0), skip ts (λ i. h (suc i)))
+
+-- ── a quiet desk ───────────────────────────────────────────────────────────────────────────────────────────────────
+pub timerAt-moment : (d : Desk) (slot : ℕ) → timerAt (moment d) slot ≡ nextTimer (d .clock) (d .places) (timerAt d slot)
+unfolding moment nextTimer nextCopy
+timerAt-moment d slot = List·getD-map (nextTimer (d .clock) (d .places)) (d .timers) slot noTimer
+
+-- no label stands, and nothing is live
+pub record Quiet (d : Desk) : Type 0 where
+  pub none-stands : NoneStands (d .clock) (d .places)
+  pub none-lives : None liveTimer noTimer (d .timers)
+
+pub quiet-is : (d : Desk) → quiet d ≡ true → Quiet d
+unfolding quiet stands
+quiet-is d q =
+    let k = and-true (not (some (stands (d .clock)) (d .places))) (not (some liveTimer (d .timers))) q in
+    record {
+      none-stands = some-none (stands (d .clock)) noLabel refl (d .places) (not-true _ (k .0));
+      none-lives = some-none liveTimer noTimer refl (d .timers) (not-true _ (k .1));
+    }
+
+pub is-quiet : (d : Desk) → Quiet d → quiet d ≡ true
+unfolding quiet
+is-quiet d q = rw (none-some (stands (d .clock)) noLabel (d .places) (q .none-stands), none-some liveTimer noTimer (d .timers) (q .none-lives))
+
+-- a second later, too
+pub none-stands-next : (d : Desk) → NoneStands (d .clock) (d .places) → NoneStands (suc (d .clock)) (d .places)
+none-stands-next d n = none-stands-later (d .clock) (suc (d .clock)) (d .places) (omega arith) n
+
+nextSecond-quiet : (d : Desk) → Quiet d → Quiet (nextSecond d)
+unfolding nextSecond moment nextTimer
+nextSecond-quiet d q =
+    let s = suc (d .clock) in
+    let n = none-stands-next d (q .none-stands) in
+    record {
+      none-stands = n;
+      none-lives =
+          λ slot.
+          let t = timerAt d slot in
+          rw (timerAt-moment (clockedAt s d) slot, nextCopy-rested s (d .places) n (t .booking) (t .copy) (q .none-lives slot))
+          (rested-dead (held (t .copy)));
+    }
+
+-- its seconds pass at once, as a moment at the last of them
+walk-jump : (n : ℕ) (d : Desk) → Quiet d → walk (suc n) d ≡ moment (clockedAt (d .clock + suc n) d)
+unfolding walk nextSecond moment
+walk-jump zero d q = let e : d .clock + 1 ≡ suc (d .clock) = omega arith in rw e
+walk-jump (suc n) d q =
+    let c = d .clock in
+    let s = c + suc (suc n) in
+    let e : suc c + suc n ≡ s = omega arith in
+    let p = none-stands-next d (q .none-stands) in
+    let p′ : NoneStands s (d .places) = none-stands-later c s (d .places) (omega arith) (q .none-stands) in
+    walk-jump n (nextSecond d) (nextSecond-quiet d q)
+    ∙ ap (λ x. moment (clockedAt x (nextSecond d))) e
+    ∙ ap (λ ts. record { clock = s; places = d .places; timers = ts }) (skip (suc c) s (d .places) p p′ (d .timers) (q .none-lives))
+
+pub quiet-walk : (n : ℕ) (d : Desk) → quiet d ≡ true → quiet (walk n d) ≡ true
+quiet-walk n d q = is-quiet (walk n d) (walk-keeps Quiet nextSecond-quiet n d (quiet-is d q))
+
+pub quiet-jump : (n : ℕ) (d : Desk) → quiet d ≡ true → walk (suc n) d ≡ moment (clockedAt (d .clock + suc n) d)
+quiet-jump n d q = walk-jump n d (quiet-is d q)
+
+pub walkedIn-quiet : (n : ℕ) (d : Desk) → quiet d ≡ true → walkedIn n d ≡ 0
+unfolding walkedIn
+walkedIn-quiet zero d q = refl
+walkedIn-quiet (suc n) d q = rw q
+
+-- ── walks ──────────────────────────────────────────────────────────────────────────────────────────────────────────
+pub walk-add : (m n : ℕ) (d : Desk) → walk (m + n) d ≡ walk n (walk m d)
+unfolding walk
+walk-add zero n d = rw zero-add
+walk-add (suc m) n d = rw suc-add (walk-add m n (nextSecond d))
+
+pub walk-clock : (n : ℕ) (d : Desk) → walk n d .clock ≡ d .clock + n
+unfolding walk nextSecond moment
+walk-clock zero d = omega arith
+walk-clock (suc n) d = walk-clock n (nextSecond d) ∙ omega arith
+
+pub walk-places : (n : ℕ) (d : Desk) → walk n d .places ≡ d .places
+unfolding nextSecond moment
+walk-places n d = walk-keeps (λ e. e .places ≡ d .places) (λ e h. h) n d refl

@@ -1,0 +1,170 @@
+-- A second moment at the same second changes nothing, so that every moment leaves a settled desk.
+use Prim.Native.Nat.{ℕ, zero, suc, _-_, _≤_}
+use mathlib.Core.Path.{_≡_, refl}
+use mathlib.Core.Bool.{Bool, true, false, cond, not, _&&_, and-false, true≢false}
+use mathlib.Core.List.{List, [], _∷_, map}
+use native.Mathlib.Omega.{arith}
+use borrow.Author.Tests.{lt-ltb, not-true}
+use lib.Dec.{ltb}
+use lib.ListN.{getD}
+use Rattle.calendar.proofs.Cases.{and-true}
+use Rattle.rule.specs.Rule.{noLabel, endedAt, matches, Found, nowhere, at, lowestFrom, lowest, some, sightBy, sightOf, recordingAt, notLive, movesOr, fromRecording, runFor, fromRunningOn, goesOn, held, nextCopy, nextTimer}
+use Rattle.rule.specs.declared.Stamped.{Stamped}
+use Rattle.rule.specs.declared.Booking.{Booking}
+use Rattle.rule.specs.declared.Copy.{Copy}
+use Rattle.rule.specs.declared.Copy.the-variants.{Free, Waiting, Prepared, Recording, RunningOn}
+use Rattle.rule.specs.declared.Timer.{Timer}
+use Rattle.rule.specs.declared.Sight.{Sight}
+use Rattle.rule.specs.declared.Sight.the-variants.{Nothing, Prepare, Start}
+use Rattle.desk.specs.Moments.{moment, clockedAt, nextSecond, walk}
+use Rattle.desk.specs.declared.Desk.{Desk}
+
+-- ── what is found passes ───────────────────────────────────────────────────────────────────────────────────────────
+abbrev Passes : {A : Type 0} → (A → Bool) → A → ℕ → List A → Found → Type 0
+Passes f z i xs nowhere = Unit {0}
+Passes f z i xs (at q) = (i ≤ q) × (f (getD xs (q - i) z) ≡ true)
+
+passes-next : {A : Type 0} (f : A → Bool) (z x : A) (i : ℕ) (xs : List A) (r : Found) → Passes f z (suc i) xs r → Passes f z i (x ∷ xs) r
+passes-next f z x i xs nowhere h = tt
+passes-next f z x i xs (at q) h = let e : q - i ≡ suc (q - suc i) = omega arith in (omega arith, rw e (h .1))
+
+found-passes : {A : Type 0} (f : A → Bool) (z : A) (i : ℕ) (xs : List A) → Passes f z i xs (lowestFrom f i xs)
+found-passes f z i [] = tt
+found-passes f z i (x ∷ xs) = go (f x) refl (found-passes f z (suc i) xs)
+  where
+    go : (b : Bool) → f x ≡ b → Passes f z (suc i) xs (lowestFrom f (suc i) xs) → Passes f z i (x ∷ xs) (cond b (at i) (lowestFrom f (suc i) xs))
+    go true e h = let d : i - i ≡ 0 = omega arith in (omega arith, rw d e)
+    go false e h = passes-next f z x i xs (lowestFrom f (suc i) xs) h
+
+pub lowest-passes : {A : Type 0} (f : A → Bool) (z : A) (xs : List A) (q : ℕ) → lowest f xs ≡ at q → f (getD xs q z) ≡ true
+lowest-passes f z xs q e = let d : q - 0 ≡ q = omega arith in rw (e, d) at (found-passes f z 0 xs) .1
+
+-- ── a copy that is not held ────────────────────────────────────────────────────────────────────────────────────────
+pub not-held : (c : Copy) → held c ≡ false → c ≡ Free
+not-held Free e = refl
+not-held Waiting e = absurd (true≢false e)
+not-held Prepared e = absurd (true≢false e)
+not-held (Recording p mi) e = absurd (true≢false e)
+not-held (RunningOn p v) e = absurd (true≢false e)
+
+-- ── one timer's copy, at a second s ────────────────────────────────────────────────────────────────────────────────
+module _ (s : ℕ) (ls : List Stamped) (b : Booking) where
+  -- what starts a copy matches, with PRF 0
+  abbrev pub Starts : ℕ → Type 0
+  Starts q = (matches s b (getD ls q noLabel) ≡ true) × (getD ls q noLabel .prf ≡ false)
+
+  pub start-matches : (q : ℕ) → sightOf s ls b ≡ Start q → Starts q
+  unfolding sightOf
+  start-matches q e = go (lowest starts ls) (some (λ l. matches s b l && l .prf) ls) refl e
+    where
+      starts : Stamped → Bool
+      starts l = matches s b l && not (l .prf)
+
+      go : (f : Found) (p : Bool) → lowest starts ls ≡ f → sightBy f p ≡ Start q → Starts q
+      go (at r) p d h =
+          let z : r ≡ q = cc in
+          let k = and-true (matches s b (getD ls r noLabel)) (not (getD ls r noLabel .prf)) (lowest-passes starts noLabel ls r d) in
+          rw (← z) (k .0, not-true (getD ls r noLabel .prf) (k .1))
+      go nowhere true d h = (cc, cc)
+      go nowhere false d h = (cc, cc)
+
+  abbrev Stays : Copy → Type 0
+  Stays c = goesOn s ls b c ≡ c
+
+  stays-at : (q : ℕ) → matches s b (getD ls q noLabel) ≡ true → Stays (recordingAt ls q)
+  unfolding recordingAt fromRecording
+  stays-at q m = rw m
+
+  stays-not-live : (g : Sight) → sightOf s ls b ≡ g → Stays (notLive ls g)
+  stays-not-live (Start q) e = stays-at q (start-matches q e .0)
+  stays-not-live Prepare e = rw e
+  stays-not-live Nothing e = rw e
+
+  -- nothing starts it
+  abbrev NoStart : Type 0
+  NoStart = (next : Copy) → movesOr ls (sightOf s ls b) next ≡ next
+
+  stays-moves : (g : Sight) → sightOf s ls b ≡ g → (next : Copy) → (NoStart → Stays next) → Stays (movesOr ls g next)
+  stays-moves (Start q) e next h = stays-at q (start-matches q e .0)
+  stays-moves Prepare e next h = h (λ c. rw e)
+  stays-moves Nothing e next h = h (λ c. rw e)
+
+  stays-running : (p v : ℕ) (t : Bool) → ltb (s - v) runFor ≡ t → NoStart → Stays (cond t (RunningOn p v) (notLive ls (sightOf s ls b)))
+  unfolding fromRunningOn
+  stays-running p v true e h = rw e (h (RunningOn p v))
+  stays-running p v false e h = stays-not-live (sightOf s ls b) refl
+
+  stays-left : (p : ℕ) (mi : Bool) → NoStart → Stays (cond mi (notLive ls (sightOf s ls b)) (RunningOn p s))
+  stays-left p true h = stays-not-live (sightOf s ls b) refl
+  stays-left p false h = stays-running p s true (lt-ltb (s - s) runFor (omega arith)) h
+
+  goesOn-stays : (c : Copy) → Stays (goesOn s ls b c)
+  unfolding fromRecording fromRunningOn
+  goesOn-stays Free = refl
+  goesOn-stays Waiting = stays-not-live (sightOf s ls b) refl
+  goesOn-stays Prepared = stays-not-live (sightOf s ls b) refl
+  goesOn-stays (Recording p mi) = go (matches s b (getD ls p noLabel)) refl
+    where
+      next : Copy
+      next = cond mi (notLive ls (sightOf s ls b)) (RunningOn p s)
+
+      go : (t : Bool) → matches s b (getD ls p noLabel) ≡ t → Stays (cond t (recordingAt ls p) (movesOr ls (sightOf s ls b) next))
+      go true e = stays-at p e
+      go false e = stays-moves (sightOf s ls b) refl next (stays-left p mi)
+  goesOn-stays (RunningOn p v) =
+      stays-moves (sightOf s ls b) refl (cond (ltb (s - v) runFor) (RunningOn p v) (notLive ls (sightOf s ls b)))
+      (stays-running p v (ltb (s - v) runFor) refl)
+
+  pub nextCopy-open : endedAt s b ≡ false → (c : Copy) → nextCopy s ls b c ≡ goesOn s ls b c
+  unfolding nextCopy
+  nextCopy-open e c = rw (e, and-false)
+
+  pub nextCopy-ended : endedAt s b ≡ true → (c : Copy) → held c ≡ true → nextCopy s ls b c ≡ Waiting
+  unfolding nextCopy
+  nextCopy-ended e c h = rw (h, e)
+
+  pub nextCopy-free : nextCopy s ls b Free ≡ Free
+  unfolding nextCopy
+  nextCopy-free = refl
+
+  nextCopy-twice : (c : Copy) → nextCopy s ls b (nextCopy s ls b c) ≡ nextCopy s ls b c
+  nextCopy-twice c = go (endedAt s b) (held c) refl refl
+    where
+      go : (t h : Bool) → endedAt s b ≡ t → held c ≡ h → nextCopy s ls b (nextCopy s ls b c) ≡ nextCopy s ls b c
+      go false h e k = rw (nextCopy-open e (nextCopy s ls b c), nextCopy-open e c) (goesOn-stays c)
+      go true true e k = rw (nextCopy-ended e c k) (nextCopy-ended e Waiting refl)
+      go true false e k = rw (not-held c k, nextCopy-free) nextCopy-free
+
+-- ── the desk ───────────────────────────────────────────────────────────────────────────────────────────────────────
+nextTimer-twice : (s : ℕ) (ls : List Stamped) (t : Timer) → nextTimer s ls (nextTimer s ls t) ≡ nextTimer s ls t
+unfolding nextTimer
+nextTimer-twice s ls t = rw (nextCopy-twice s ls (t .booking) (t .copy))
+
+map-twice : {A : Type 0} (f : A → A) → ((x : A) → f (f x) ≡ f x) → (xs : List A) → map f (map f xs) ≡ map f xs
+map-twice f h [] = refl
+map-twice f h (x ∷ xs) = rw (h x, map-twice f h xs)
+
+abbrev pub Settled : Desk → Type 0
+Settled d = moment d ≡ d
+
+pub moment-settled : (d : Desk) → Settled (moment d)
+unfolding moment
+moment-settled d = rw (map-twice (nextTimer (d .clock) (d .places)) (nextTimer-twice (d .clock) (d .places)) (d .timers))
+
+pub nextSecond-settled : (d : Desk) → Settled (nextSecond d)
+unfolding nextSecond
+nextSecond-settled d = moment-settled (clockedAt (suc (d .clock)) d)
+
+-- what a second keeps, a walk keeps
+pub walk-keeps : (P : Desk → Type 0) → ((d : Desk) → P d → P (nextSecond d)) → (n : ℕ) (d : Desk) → P d → P (walk n d)
+unfolding walk
+walk-keeps P h zero d p = p
+walk-keeps P h (suc n) d p = walk-keeps P h n (nextSecond d) (h d p)
+
+pub walk-settled : (n : ℕ) (d : Desk) → Settled d → Settled (walk n d)
+walk-settled = walk-keeps Settled (λ d h. nextSecond-settled d)
+
+-- whatever the desk was, the first second settles it
+pub walk-suc-settled : (n : ℕ) (d : Desk) → Settled (walk (suc n) d)
+unfolding walk
+walk-suc-settled n d = walk-settled n (nextSecond d) (nextSecond-settled d)

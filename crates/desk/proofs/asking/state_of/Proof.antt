@@ -1,0 +1,49 @@
+-- By cases of the copy.
+use borrow.Author.Needs.{needs}
+use Rattle.desk.proofs.asking.state_of.Statement.{statement}
+use Rattle.desk.proofs.asking.state_of.Tie as tie
+
+enum-told : tie.Need-enum-told
+enum-told c = search needs
+
+enum-told-2 : tie.Need-enum-told-2
+enum-told-2 c = search needs
+
+enum-told-3 : tie.Need-enum-told-3
+enum-told-3 c = search needs
+
+enum-known-c : tie.Need-enum-known-c
+enum-known-c c = search needs
+
+enum-known-c-2 : tie.Need-enum-known-c-2
+enum-known-c-2 c = search needs
+
+returns : tie.Need-returns
+returns c = search needs
+
+returns-2 : tie.Need-returns-2
+returns-2 c = search needs
+
+returns-3 : tie.Need-returns-3
+returns-3 c = search needs
+
+returns-4 : tie.Need-returns-4
+returns-4 c = rw (c .before .c .given .1)
+
+returns-5 : tie.Need-returns-5
+returns-5 c = rw (c .before .c2 .given .1)
+
+pub state-of-spec : {M : Type 1} → statement M
+state-of-spec =
+    tie.close
+    (tie.spec
+    enum-told
+    enum-told-2
+    enum-told-3
+    enum-known-c
+    enum-known-c-2
+    returns
+    returns-2
+    returns-3
+    returns-4
+    returns-5)

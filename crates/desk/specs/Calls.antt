@@ -1,0 +1,137 @@
+-- The calls of the desk (document 01, 'Timers and calls'): when each is refused, and what an accepted one answers and leaves.
+use Prim.Native.Nat.{ℕ, _+_, _*_}
+use mathlib.Core.Bool.{Bool, true, false, cond, not, _&&_, _||_}
+use mathlib.Core.List.{List, [], _∷_}
+use lib.Dec.{leb, ltb, eqb}
+use lib.ListN.{getD, set}
+use Rattle.hamming.specs.Answer.{Answer, refused, given, Row, firstOf, andThen}
+use Rattle.label.specs.declared.Label.{Label}
+use Rattle.label.specs.Packet.{readingOf, refusalNumber}
+use Rattle.calendar.specs.Calendar.{windowIn, clockEnd}
+use Rattle.calendar.specs.declared.Window.{Window}
+use Rattle.rule.specs.Rule.{noLabel, heardAt, endedAt, held, Found, nowhere, at, lowest, some, flag}
+use Rattle.rule.specs.declared.Booking.{Booking}
+use Rattle.rule.specs.declared.Timer.{Timer}
+use Rattle.rule.specs.declared.Copy.{Copy}
+use Rattle.rule.specs.declared.Copy.the-variants.{Free, Waiting, Prepared, Recording, RunningOn}
+use Rattle.desk.specs.Moments.{noTimer, moment, nextSecond, passTo, walkedTo}
+use Rattle.desk.specs.declared.Desk.{Desk}
+
+-- what an accepted call that tells a number gives: the number, and the desk afterwards
+pub record Told : Type 0 where
+  pub says : ℕ
+  pub desk : Desk
+
+-- ── a packet ───────────────────────────────────────────────────────────────────────────────────────────────────────
+-- 9: 'time before the clock'; 10: 'time past the clock's end'
+abbrev pub timeRows : Desk → ℕ → List Row
+timeRows d t = (ltb t (d .clock), 9) ∷ (ltb clockEnd t, 10) ∷ []
+
+-- 8: 'tuner above 3'
+abbrev pub tunerRows : Desk → ℕ → ℕ → List Row
+tunerRows d tuner t = (ltb 3 tuner, 8) ∷ timeRows d t
+
+-- 'sixteen places, a tuner 0 to 3 with an LCI 0 to 3, ordered by tuner, then LCI'
+abbrev pub placeOf : ℕ → Label → ℕ
+placeOf tuner l = tuner * 4 + l .lci
+
+-- the label reaches its place at the present second
+abbrev pub withLabel : ℕ → Label → Desk → Desk
+withLabel tuner l d =
+    let p = placeOf tuner l in
+    record { clock = d .clock; places = set (d .places) p (heardAt (d .clock) l (getD (d .places) p noLabel)); timers = d .timers }
+
+-- 'first passes every second up to t, then takes effect', and 'each accepted call' is a moment
+unfoldable pub hearingAt : ℕ → ℕ → Label → Desk → Desk
+hearingAt tuner t l d = moment (withLabel tuner l (passTo t d))
+
+-- 7: 'LUF is 1 (desk only)'
+abbrev pub labelRows : Label → List Row
+labelRows l = (flag (l .luf), 7) ∷ []
+
+-- a label already read is heard: 8, 9, 10, then 7
+unfoldable pub hearing : ℕ → ℕ → Label → Desk → Answer Desk
+hearing tuner t l d =
+    andThen (firstOf (tunerRows d tuner t) l) (λ m. firstOf (labelRows m) (hearingAt tuner t m d))
+
+-- 'packet: 8, 9, 10, 1 to 7'
+unfoldable pub packetOf : ℕ → ℕ → List ℕ → Desk → Answer Desk
+packetOf tuner t bytes d =
+    andThen (firstOf (tunerRows d tuner t) bytes) (λ p. andThen (readingOf p) (λ l. firstOf (labelRows l) (hearingAt tuner t l d)))
+
+-- ── a wait, and one second ─────────────────────────────────────────────────────────────────────────────────────────
+-- 'wait: 9, 10'
+unfoldable pub waitOf : ℕ → Desk → Answer Told
+waitOf t d = firstOf (timeRows d t) (record { says = walkedTo t d; desk = moment (passTo t d) })
+
+-- one second passes, but not past the clock's end
+unfoldable pub secondOf : Desk → Answer Desk
+secondOf d = firstOf ((leb clockEnd (d .clock), 10) ∷ []) (nextSecond d)
+
+-- ── timers ─────────────────────────────────────────────────────────────────────────────────────────────────────────
+-- 'held and not ended'
+abbrev pub active : ℕ → Timer → Bool
+active s t = held (t .copy) && not (endedAt s (t .booking))
+
+-- 'two timers are the same if all three agree'
+abbrev pub sameBooking : Booking → Booking → Bool
+sameBooking a b = eqb (a .cni) (b .cni) && eqb (a .pil) (b .pil) && eqb (a .year) (b .year)
+
+-- 'the lowest slot that is free or whose window has ended'
+unfoldable pub roomIn : Desk → Found
+roomIn d = lowest (λ t. not (active (d .clock) t)) (d .timers)
+
+abbrev pub isNowhere : Found → Bool
+isNowhere nowhere = true
+isNowhere (at i) = false
+
+abbrev pub slotOf : Found → ℕ
+slotOf nowhere = 16
+slotOf (at i) = i
+
+abbrev pub withTimer : ℕ → Timer → Desk → Desk
+withTimer slot t d = record { clock = d .clock; places = d .places; timers = set (d .timers) slot t }
+
+abbrev pub addRows : Booking → Desk → Window → List Row
+addRows b d w =
+    (leb (w .closes) (d .clock), 12)  -- window has ended
+    ∷ (some (λ t. active (d .clock) t && sameBooking b (t .booking)) (d .timers), 13)  -- the same timer is held and not ended
+    ∷ (isNowhere (roomIn d), 14)  -- all sixteen slots held and not ended
+    ∷ []
+
+-- 'add: 11 to 14'; 11 is the calendar's
+unfoldable pub addOf : Booking → Desk → Answer Told
+addOf b d =
+    let slot = slotOf (roomIn d) in
+    andThen (windowIn (b .pil) (b .year))
+    (λ w. firstOf (addRows b d w) (record { says = slot; desk = moment (withTimer slot (record { booking = b; copy = Waiting }) d) }))
+
+abbrev pub timerAt : Desk → ℕ → Timer
+timerAt d slot = getD (d .timers) slot noTimer
+
+-- 15: 'slot above 15 or free'
+abbrev pub slotRows : ℕ → Desk → List Row
+slotRows slot d = (ltb 15 slot || not (held (timerAt d slot .copy)), 15) ∷ []
+
+-- 'cancelling frees a slot and ends its copy'
+unfoldable pub cancelOf : ℕ → Desk → Answer Desk
+cancelOf slot d = firstOf (slotRows slot d) (moment (withTimer slot noTimer d))
+
+-- ── asking ─────────────────────────────────────────────────────────────────────────────────────────────────────────
+-- what asking gives: 0 waiting, 1 prepared, 2 recording, 3 running on, 4 ended, and the place of the third and the fourth
+pub record Says : Type 0 where
+  pub state : ℕ
+  pub place : ℕ
+
+abbrev pub copySays : Copy → Says
+copySays Free = record { state = 0; place = 0 }
+copySays Waiting = record { state = 0; place = 0 }
+copySays Prepared = record { state = 1; place = 0 }
+copySays (Recording p mi) = record { state = 2; place = p }
+copySays (RunningOn p v) = record { state = 3; place = p }
+
+-- 'asking a slot gives waiting, prepared, recording with place, running on with place, or ended'
+unfoldable pub askOf : ℕ → Desk → Answer Says
+askOf slot d =
+    let t = timerAt d slot in
+    firstOf (slotRows slot d) (cond (endedAt (d .clock) (t .booking)) (record { state = 4; place = 0 }) (copySays (t .copy)))

@@ -1,0 +1,4 @@
+pub mod Moments
+pub mod Calls
+pub mod Numbers
+pub mod Laws

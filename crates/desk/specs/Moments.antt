@@ -1,0 +1,63 @@
+-- The desk second by second (document 01, 'The second-by-second rule'): its moments, its seconds and its waits.
+use Prim.Native.Nat.{ℕ, zero, suc, _+_, _-_}
+use mathlib.Core.Bool.{Bool, cond, not, _&&_}
+use mathlib.Core.List.{List, [], _∷_, map}
+use lib.ListN.{replicate}
+use Rattle.rule.specs.Rule.{noLabel, stands, nextTimer, liveTimer, some}
+use Rattle.rule.specs.declared.Booking.{Booking}
+use Rattle.rule.specs.declared.Timer.{Timer}
+use Rattle.rule.specs.declared.Copy.the-variants.{Free}
+use Rattle.desk.specs.declared.Desk.{Desk}
+
+abbrev pub noBooking : Booking
+noBooking = record { cni = 0; pil = 0; year = 0 }
+
+-- a free slot
+abbrev pub noTimer : Timer
+noTimer = record { booking = noBooking; copy = Free }
+
+-- 'a fresh desk has clock 0, no label at any place and every slot free'
+abbrev pub fresh : Desk
+fresh = record { clock = 0; places = replicate 16 noLabel; timers = replicate 16 noTimer }
+
+-- 'at each moment every timer's copy goes on'
+unfoldable pub moment : Desk → Desk
+moment d = record { clock = d .clock; places = d .places; timers = map (nextTimer (d .clock) (d .places)) (d .timers) }
+
+-- the same desk with its clock at second s
+abbrev pub clockedAt : ℕ → Desk → Desk
+clockedAt s d = record { clock = s; places = d .places; timers = d .timers }
+
+-- 'each whole second is a moment'
+unfoldable pub nextSecond : Desk → Desk
+nextSecond d = moment (clockedAt (suc (d .clock)) d)
+
+-- n seconds pass, one by one
+unfoldable pub walk : ℕ → Desk → Desk
+walk zero d = d
+walk (suc n) d = walk n (nextSecond d)
+
+-- 'a call at t first passes every second up to t'
+unfoldable pub passTo : ℕ → Desk → Desk
+passTo t d = walk (t - d .clock) d
+
+-- 'no label stands and nothing is live'
+unfoldable pub quiet : Desk → Bool
+quiet d = not (some (stands (d .clock)) (d .places)) && not (some liveTimer (d .timers))
+
+-- 'the least number after which no label stands and nothing is live, or the whole wait if that is less', of a wait of n seconds
+unfoldable pub walkedIn : ℕ → Desk → ℕ
+walkedIn zero d = 0
+walkedIn (suc n) d = let more = suc (walkedIn n (nextSecond d)) in cond (quiet d) 0 more
+
+-- 'a wait to second t reports how many seconds it walked'
+unfoldable pub walkedTo : ℕ → Desk → ℕ
+walkedTo t d = walkedIn (t - d .clock) d
+
+abbrev pub count : {A : Type 0} → (A → Bool) → List A → ℕ
+count f [] = 0
+count f (x ∷ xs) = cond (f x) 1 0 + count f xs
+
+-- 'the count of live timers'
+unfoldable pub liveCount : Desk → ℕ
+liveCount d = count liveTimer (d .timers)

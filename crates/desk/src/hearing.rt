@@ -1,0 +1,126 @@
+// Packets: refused, read, and heard.
+ghost use mathlib.Core.Path.{_≡_};
+ghost use lib.ListN.{set};
+ghost use Rattle.hamming.specs.Answer.{firstOf, number, after};
+ghost use Rattle.desk.specs.Calls.{tunerRows, labelRows, withLabel, hearingAt, hearing, packetOf};
+ghost use Rattle.desk.specs.Numbers.{packetNumber};
+use crate::Desk;
+use crate::Heard;
+use crate::PacketAnswer;
+use crate::PacketRefusal;
+use crate::moments::CLOCK_END;
+use label::Label;
+use label::Reading;
+use rule::Stamped;
+use rule::copies::label_at;
+use rule::standing::heard_at;
+
+fn put(places: [Stamped; 16], p: usize, l: Stamped) -> [Stamped; 16]
+    ensures { λ r. ⌜ r ≡ set places p l ⌝ }
+{
+    if p < 16 {
+        let mut out = places;
+        out[p] = l;
+        return out;
+    }
+    places
+}
+
+impl Desk {
+    fn with_label(self, tuner: u8, l: Label) -> Desk
+        ensures { λ r. ⌜ r ≡ withLabel tuner l self ⌝ }
+    {
+        let places = self.places;
+        let timers = self.timers;
+        let p = tuner as usize * 4 + l.lci as usize;
+        let old = label_at(places, p);
+        let new = heard_at(self.clock, l, old);
+        let next = put(places, p, new);
+        Desk {
+            clock: self.clock,
+            places: next,
+            timers: timers,
+        }
+    }
+
+    // 'First passes every second up to t, then takes effect.'
+    fn hearing_at(self, tuner: u8, time: u32, l: Label) -> Desk
+        ensures { λ r. ⌜ r ≡ hearingAt tuner time l self ⌝ }
+    {
+        let p = self.pass(time);
+        let passed = p.desk;
+        let changed = passed.with_label(tuner, l);
+        changed.moment()
+    }
+
+    // 'Its answer is the number alone; desk, clock and lent buffers are unchanged.'
+    fn refuse(self, r: PacketRefusal) -> Heard
+        ensures { λ h. ⌜ h ≡ record { answer = PacketAnswer.Refused r; desk = self } ⌝ }
+    {
+        Heard {
+            answer: PacketAnswer::Refused(r),
+            desk: self,
+        }
+    }
+
+    // Refusals 8, 9 and 10, in this order; `Done` where none applies.
+    fn barred(self, tuner: u8, time: u32) -> PacketAnswer
+        ensures { λ r. ⌜ packetNumber r ≡ number (firstOf (tunerRows self tuner time) self) ⌝ }
+    {
+        if 3 < tuner {
+            return PacketAnswer::Refused(PacketRefusal::Tuner);
+        }
+        if time < self.clock {
+            return PacketAnswer::Refused(PacketRefusal::Before);
+        }
+        if CLOCK_END < time {
+            return PacketAnswer::Refused(PacketRefusal::Past);
+        }
+        PacketAnswer::Done
+    }
+
+    // Refusal 7, or the label takes effect.
+    fn obey(self, tuner: u8, time: u32, l: Label) -> Heard
+        ensures { λ r. ⌜ (let o = firstOf (labelRows l) (hearingAt tuner time l self) in
+            (packetNumber (r .answer) ≡ number o) × (r .desk ≡ after self o)) ⌝ }
+    {
+        if l.luf != 0 {
+            return self.refuse(PacketRefusal::Update);
+        }
+        let next = self.hearing_at(tuner, time, l);
+        Heard {
+            answer: PacketAnswer::Done,
+            desk: next,
+        }
+    }
+
+    // A label already read.
+    fn hear(self, tuner: u8, time: u32, l: Label) -> Heard
+        ensures { λ r. ⌜ (packetNumber (r .answer) ≡ number (hearing tuner time l self))
+            × (r .desk ≡ after self (hearing tuner time l self)) ⌝ }
+    {
+        let barred = self.barred(tuner, time);
+        match barred {
+            PacketAnswer::Refused(r) => self.refuse(r),
+            PacketAnswer::Done => self.obey(tuner, time, l),
+        }
+    }
+
+    // 'Packet: 8, 9, 10, 1 to 7.'
+    pub fn packet(self, tuner: u8, time: u32, bytes: &[u8]) -> Heard
+        ensures { λ r. ⌜ (packetNumber (r .answer) ≡ number (packetOf tuner time (now (bytes .entry)) self))
+            × (r .desk ≡ after self (packetOf tuner time (now (bytes .entry)) self)) ⌝ }
+    {
+        let barred = self.barred(tuner, time);
+        match barred {
+            PacketAnswer::Refused(r) => self.refuse(r),
+            PacketAnswer::Done => {
+                let reading = label::reader::read(bytes);
+                match reading {
+                    Reading::Refused(r) => self.refuse(PacketRefusal::Unread(r)),
+                    Reading::Read(l) => self.obey(tuner, time, l),
+                }
+            }
+        }
+    }
+}

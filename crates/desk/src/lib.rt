@@ -1,0 +1,106 @@
+// The label desk of four tuners and sixteen timers: its state and its calls.
+mod asking; // one slot, and how many are live
+mod hearing; // packets and labels
+mod moments; // seconds, waits, and the moment that every accepted call ends in
+mod timers; // adding and cancelling
+
+ghost use mathlib.Core.Bool.{true};
+ghost use mathlib.Core.Path.{_≡_};
+ghost use Rattle.desk.specs.Laws.{Laws};
+use rule::Stamped;
+use rule::Timer;
+
+pub struct Desk {
+    pub clock: u32,
+    pub places: [Stamped; 16],
+    pub timers: [Timer; 16],
+}
+
+// Why a packet is not heard: refusals 8, 9, 10, those of the reader, 7.
+pub enum PacketRefusal {
+    Tuner,
+    Before,
+    Past,
+    Unread(label::Refusal),
+    Update,
+}
+
+pub enum PacketAnswer {
+    Refused(PacketRefusal),
+    Done,
+}
+
+pub struct Heard {
+    pub answer: PacketAnswer,
+    pub desk: Desk,
+}
+
+// Refusals 9 and 10, or the seconds walked.
+pub enum WaitAnswer {
+    Before,
+    Past,
+    Walked(u32),
+}
+
+pub struct Waited {
+    pub answer: WaitAnswer,
+    pub desk: Desk,
+}
+
+// Refusals 11 to 14, or the slot.
+pub enum AddAnswer {
+    NotReal,
+    Ended,
+    Held,
+    Full,
+    Slot(usize),
+}
+
+pub struct Added {
+    pub answer: AddAnswer,
+    pub desk: Desk,
+}
+
+// Refusal 15, or nothing more to say.
+pub enum CancelAnswer {
+    NoTimer,
+    Done,
+}
+
+pub struct Cancelled {
+    pub answer: CancelAnswer,
+    pub desk: Desk,
+}
+
+// What asking a slot gives.
+pub enum State {
+    Waiting,
+    Prepared,
+    Recording { place: usize },
+    RunningOn { place: usize },
+    Ended,
+}
+
+// Refusal 15, or the timer's state.
+pub enum AskAnswer {
+    NoTimer,
+    Says(State),
+}
+
+// Refusal 10, or nothing more to say.
+pub enum SecondAnswer {
+    Past,
+    Done,
+}
+
+pub struct Passed {
+    pub answer: SecondAnswer,
+    pub desk: Desk,
+}
+
+// The laws of one call and one moment, as a promise of the crate.
+pub fn lawful() -> bool
+    ensures { λ r. ⌜ (r ≡ true) × Laws ⌝ }
+{
+    true
+}

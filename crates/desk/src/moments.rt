@@ -1,0 +1,186 @@
+// Moments and seconds. A second after which the desk is quiet is not walked: see `pass`.
+ghost use mathlib.Core.List.{map};
+ghost use mathlib.Core.Path.{_≡_};
+ghost use Rattle.hamming.specs.Answer.{number, after};
+ghost use Rattle.rule.specs.Rule.{stands, some, liveTimer, nextTimer};
+ghost use Rattle.desk.specs.Moments.{fresh, moment, clockedAt, quiet, passTo, walkedTo};
+ghost use Rattle.desk.specs.Calls.{waitOf, secondOf};
+ghost use Rattle.desk.specs.Numbers.{waitAnswer, saidBy, leftBy, secondNumber};
+use crate::Desk;
+use crate::Passed;
+use crate::SecondAnswer;
+use crate::WaitAnswer;
+use crate::Waited;
+use crate::timers::no_timer;
+use rule::Stamped;
+use rule::Timer;
+use rule::copies::is_held;
+use rule::copies::is_live;
+use rule::copies::next_timer;
+use rule::standing::no_label;
+use rule::standing::stands;
+
+pub(crate) const CLOCK_END: u32 = 3155774400;
+
+// A free slot stays free, and costs nothing.
+fn all_next(s: u32, places: [Stamped; 16], timers: [Timer; 16]) -> [Timer; 16]
+    ensures { λ r. ⌜ r ≡ map (nextTimer s places) timers ⌝ }
+{
+    let mut out = timers;
+    let mut i: usize = 0;
+    while i < 16 {
+        let t = out[i];
+        let c = t.copy;
+        let held = is_held(c);
+        if held {
+            let next = next_timer(s, places, t);
+            out[i] = next;
+        }
+        i += 1;
+    }
+    out
+}
+
+fn any_stands(s: u32, places: [Stamped; 16]) -> bool
+    ensures { λ r. ⌜ r ≡ some (stands s) places ⌝ }
+{
+    let mut i: usize = 0;
+    while i < 16 {
+        let l = places[i];
+        let up = stands(l, s);
+        if up {
+            return true;
+        }
+        i += 1;
+    }
+    false
+}
+
+fn any_live(timers: [Timer; 16]) -> bool
+    ensures { λ r. ⌜ r ≡ some liveTimer timers ⌝ }
+{
+    let mut i: usize = 0;
+    while i < 16 {
+        let t = timers[i];
+        let c = t.copy;
+        let live = is_live(c);
+        if live {
+            return true;
+        }
+        i += 1;
+    }
+    false
+}
+
+// The desk that the passing of seconds leaves, and how many were walked.
+pub(crate) struct Pass {
+    pub(crate) walked: u32,
+    pub(crate) desk: Desk,
+}
+
+impl Desk {
+    pub fn new() -> Desk
+        ensures { λ r. ⌜ r ≡ fresh ⌝ }
+    {
+        let l = no_label();
+        let t = no_timer();
+        Desk {
+            clock: 0,
+            places: [l; 16],
+            timers: [t; 16],
+        }
+    }
+
+    fn moment_at(self, s: u32) -> Desk
+        ensures { λ r. ⌜ r ≡ moment (clockedAt s self) ⌝ }
+    {
+        let places = self.places;
+        let timers = self.timers;
+        let next = all_next(s, places, timers);
+        Desk {
+            clock: s,
+            places: places,
+            timers: next,
+        }
+    }
+
+    pub(crate) fn moment(self) -> Desk
+        ensures { λ r. ⌜ r ≡ moment self ⌝ }
+    {
+        self.moment_at(self.clock)
+    }
+
+    fn quiet(self) -> bool
+        ensures { λ r. ⌜ r ≡ quiet self ⌝ }
+    {
+        let places = self.places;
+        let timers = self.timers;
+        let up = any_stands(self.clock, places);
+        let live = any_live(timers);
+        !up & !live
+    }
+
+    // 'Every second up to t.' Of a quiet desk the moment at t leaves what all the seconds up to it would.
+    pub(crate) fn pass(self, t: u32) -> Pass
+        ensures { λ r. ⌜ (r .walked ≡ walkedTo t self) × (r .desk ≡ passTo t self) ⌝ }
+    {
+        let mut d = self;
+        let mut n: u32 = 0;
+        while d.clock < t {
+            let quiet = d.quiet();
+            if quiet {
+                let last = d.moment_at(t);
+                return Pass {
+                    walked: n,
+                    desk: last,
+                };
+            }
+            let c = d.clock;
+            d = d.moment_at(c + 1);
+            n += 1;
+        }
+        Pass { walked: n, desk: d }
+    }
+
+    // 'Wait: 9, 10.'
+    pub fn wait(self, time: u32) -> Waited
+        ensures { λ r. ⌜ (waitAnswer (r .answer) ≡ saidBy (waitOf time self)) × (r .desk ≡ leftBy self (waitOf time self)) ⌝ }
+    {
+        if time < self.clock {
+            return Waited {
+                answer: WaitAnswer::Before,
+                desk: self,
+            };
+        }
+        if CLOCK_END < time {
+            return Waited {
+                answer: WaitAnswer::Past,
+                desk: self,
+            };
+        }
+        let p = self.pass(time);
+        let passed = p.desk;
+        let last = passed.moment();
+        Waited {
+            answer: WaitAnswer::Walked(p.walked),
+            desk: last,
+        }
+    }
+
+    pub fn second(self) -> Passed
+        ensures { λ r. ⌜ (secondNumber (r .answer) ≡ number (secondOf self)) × (r .desk ≡ after self (secondOf self)) ⌝ }
+    {
+        let c = self.clock;
+        if CLOCK_END <= c {
+            return Passed {
+                answer: SecondAnswer::Past,
+                desk: self,
+            };
+        }
+        let next = self.moment_at(c + 1);
+        Passed {
+            answer: SecondAnswer::Done,
+            desk: next,
+        }
+    }
+}

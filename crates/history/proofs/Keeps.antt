@@ -1,0 +1,207 @@
+-- What every reachable desk keeps, after every call and at every second inside a wait.
+use Prim.Native.Nat.{ℕ, zero, suc, _+_, _-_, _≤_, _<_}
+use mathlib.Core.Path.{_≡_, refl, sym, ap, _∙_}
+use mathlib.Core.Bool.{Bool, true, false, cond, not, _&&_, true≢false}
+use mathlib.Core.List.{List, [], _∷_}
+use mathlib.Core.Logic.{inl, inr}
+use native.Mathlib.Omega.{arith}
+use borrow.Author.Tests.{eqb-true, eqb-false, eq-eqb, ne-eqb, not-true}
+use lib.Dec.{eqb}
+use lib.ListN.{length, getD, length-map, length-set}
+use Rattle.hamming.specs.Answer.{given}
+use Rattle.label.specs.declared.Label.{Label}
+use Rattle.label.specs.Pil.{serviceOf}
+use Rattle.calendar.specs.declared.Window.{Window}
+use Rattle.calendar.specs.Calendar.{windowIn, clockEnd}
+use Rattle.calendar.proofs.Cases.{and-true}
+use Rattle.rule.specs.Rule.{noLabel, stands, stamped, renewed, isContinuation, heardAt, openAt, endedAt, held, nextCopy, nextTimer, isLive, some}
+use Rattle.rule.specs.declared.Stamped.{Stamped}
+use Rattle.rule.specs.declared.Booking.{Booking}
+use Rattle.rule.specs.declared.Copy.the-variants.{Waiting}
+use Rattle.rule.specs.declared.Timer.{Timer}
+use Rattle.desk.specs.declared.Desk.{Desk}
+use Rattle.desk.specs.Moments.{noTimer, fresh, moment, clockedAt, nextSecond, walk, passTo}
+use Rattle.desk.specs.Calls.{placeOf, withLabel, active, sameBooking, withTimer, timerAt}
+use Rattle.desk.proofs.Settle.{moment-settled}
+use Rattle.desk.proofs.Jump.{some-none, timerAt-moment}
+use Rattle.history.specs.Run.{Call, outcome, left, deskAfter, reached}
+use Rattle.history.specs.Laws.{SinceBy, Sound}
+use Rattle.history.proofs.Lists.{getD-set, getD-same}
+use Rattle.history.proofs.Windows.{open-later, not-ended-before}
+use Rattle.history.proofs.Next.{Next, next-is, next-held, next-live, next-since, since-later}
+use Rattle.history.proofs.Steps.{Step, same, hears, waits, passes, adds, cancels, step}
+
+-- what holds before a moment: as Sound, but that a live copy's window may have ended by now
+record Pre (d : Desk) : Type 0 where
+  pub clock-within : d .clock ≤ clockEnd
+  pub sixteen : (length (d .places) ≡ 16) × (length (d .timers) ≡ 16)
+  pub stamps : (p : ℕ) → getD (d .places) p noLabel .stamp ≤ d .clock
+  pub run-ons : (slot : ℕ) → SinceBy (d .clock) (timerAt d slot .copy)
+  pub open-window : (slot : ℕ) → endedAt (d .clock) (timerAt d slot .booking) ≡ false → isLive (timerAt d slot .copy) ≡ true →
+      openAt (d .clock) (timerAt d slot .booking) ≡ true
+  pub no-twins : (i j : ℕ) → i < j → active (d .clock) (timerAt d i) ≡ true → active (d .clock) (timerAt d j) ≡ true →
+      sameBooking (timerAt d i .booking) (timerAt d j .booking) ≡ false
+  pub real : (slot : ℕ) → held (timerAt d slot .copy) ≡ true →
+      (w : Window) × (windowIn (timerAt d slot .booking .pil) (timerAt d slot .booking .year) ≡ given w)
+
+-- ── a moment ───────────────────────────────────────────────────────────────────────────────────────────────────────
+module _ (d : Desk) (slot : ℕ) where
+  booking-moment : timerAt (moment d) slot .booking ≡ timerAt d slot .booking
+  unfolding nextTimer
+  booking-moment = ap (λ t. t .booking) (timerAt-moment d slot)
+
+  pub copy-moment : Next (d .clock) (d .places) (timerAt d slot .booking) (timerAt d slot .copy) (timerAt (moment d) slot .copy)
+  unfolding nextTimer
+  copy-moment = rw (timerAt-moment d slot) (next-is (d .clock) (d .places) (timerAt d slot .booking) (timerAt d slot .copy))
+
+  held-moment : held (timerAt (moment d) slot .copy) ≡ held (timerAt d slot .copy)
+  held-moment = next-held _ _ _ copy-moment
+
+  active-moment : active (d .clock) (timerAt (moment d) slot) ≡ active (d .clock) (timerAt d slot)
+  active-moment = rw (held-moment, booking-moment)
+
+sound-moment : (d : Desk) → Pre d → Sound (moment d)
+unfolding moment
+sound-moment d h = record {
+  clock-within = h .clock-within;
+  sixteen = (h .sixteen .0, length-map (d .timers) (nextTimer (d .clock) (d .places)) ∙ h .sixteen .1);
+  stamps = h .stamps;
+  run-ons = λ slot. next-since _ _ _ (copy-moment d slot) (h .run-ons slot);
+  open-window = λ slot e. rw (booking-moment d slot) (next-live _ _ _ (copy-moment d slot) (h .open-window slot) e);
+  no-twins = λ i j l a b. rw (booking-moment d i, booking-moment d j) (h .no-twins i j l (sym (active-moment d i) ∙ a) (sym (active-moment d j) ∙ b));
+  real = λ slot e. rw (booking-moment d slot) (h .real slot (sym (held-moment d slot) ∙ e));
+  settled = moment-settled d;
+}
+
+-- ── seconds ────────────────────────────────────────────────────────────────────────────────────────────────────────
+-- what is held and not ended at a later second is so before
+active-before : (s s′ : ℕ) → s ≤ s′ → (t : Timer) → active s′ t ≡ true → active s t ≡ true
+active-before s s′ k t a =
+    let h = and-true (held (t .copy)) (not (endedAt s′ (t .booking))) a in
+    rw (h .0, not-ended-before (t .booking) s s′ k (not-true (endedAt s′ (t .booking)) (h .1)))
+
+pre-at : (s : ℕ) (d : Desk) → Sound d → d .clock ≤ s → s ≤ clockEnd → Pre (clockedAt s d)
+pre-at s d h k l = record {
+  clock-within = l;
+  sixteen = h .sixteen;
+  stamps = λ p. omega (arith, h .stamps p);
+  run-ons = λ slot. since-later (d .clock) s k (timerAt d slot .copy) (h .run-ons slot);
+  open-window = λ slot e live. open-later (timerAt d slot .booking) (d .clock) s k (h .open-window slot live) e;
+  no-twins = λ i j m a b. h .no-twins i j m (active-before (d .clock) s k (timerAt d i) a) (active-before (d .clock) s k (timerAt d j) b);
+  real = h .real;
+}
+
+pre-now : (d : Desk) → Sound d → Pre d
+pre-now d h = pre-at (d .clock) d h (omega arith) (h .clock-within)
+
+sound-second : (d : Desk) → Sound d → d .clock < clockEnd → Sound (nextSecond d)
+unfolding nextSecond
+sound-second d h k = sound-moment (clockedAt (suc (d .clock)) d) (pre-at (suc (d .clock)) d h (omega arith) k)
+
+pub sound-walk : (n : ℕ) (d : Desk) → Sound d → d .clock + n ≤ clockEnd → Sound (walk n d)
+unfolding walk nextSecond moment
+sound-walk zero d h k = h
+sound-walk (suc n) d h k = sound-walk n (nextSecond d) (sound-second d h (omega arith)) (omega arith)
+
+sound-pass : (t : ℕ) (d : Desk) → Sound d → d .clock ≤ t → t ≤ clockEnd → Sound (passTo t d)
+unfolding passTo
+sound-pass t d h k l = sound-walk (t - d .clock) d h (omega arith)
+
+-- ── calls ──────────────────────────────────────────────────────────────────────────────────────────────────────────
+cond-stamp : (s : ℕ) (b : Bool) (x y : Stamped) → x .stamp ≤ s → y .stamp ≤ s → cond b x y .stamp ≤ s
+cond-stamp s true x y h k = h
+cond-stamp s false x y h k = k
+
+heardAt-stamp : (s : ℕ) (l : Label) (old : Stamped) → old .stamp ≤ s → heardAt s l old .stamp ≤ s
+unfolding heardAt
+heardAt-stamp s l old h =
+    cond-stamp s (isContinuation (serviceOf (l .pil))) (renewed s old) (stamped s l) (cond-stamp s (stands s old) _ old (omega arith) h) (omega arith)
+
+pre-label : (tuner : ℕ) (l : Label) (d : Desk) → Pre d → Pre (withLabel tuner l d)
+pre-label tuner l d h =
+    let p = placeOf tuner l in
+    let v = heardAt (d .clock) l (getD (d .places) p noLabel) in
+    record {
+      clock-within = h .clock-within;
+      sixteen = (length-set (d .places) p v ∙ h .sixteen .0, h .sixteen .1);
+      stamps = λ q. elim (getD-set noLabel v (d .places) p q) [
+        | inl e ↦ rw (e .1) (heardAt-stamp (d .clock) l (getD (d .places) p noLabel) (h .stamps p))
+        | inr e ↦ rw e (h .stamps q)
+      ];
+      run-ons = h .run-ons;
+      open-window = h .open-window;
+      no-twins = h .no-twins;
+      real = h .real;
+    }
+
+eqb-sym : (a b : ℕ) → eqb a b ≡ eqb b a
+eqb-sym a b = go (eqb a b) refl
+  where
+    go : (t : Bool) → eqb a b ≡ t → t ≡ eqb b a
+    go true e = sym (eq-eqb b a (sym (eqb-true a b e)))
+    go false e = sym (ne-eqb b a (λ k. eqb-false a b e (sym k)))
+
+sameBooking-sym : (a b : Booking) → sameBooking a b ≡ sameBooking b a
+sameBooking-sym a b = rw (eqb-sym (a .cni) (b .cni), eqb-sym (a .pil) (b .pil), eqb-sym (a .year) (b .year))
+
+-- a timer that is not live in a slot
+module _ (d : Desk) (slot : ℕ) (t : Timer) (h : Pre d) (dead : isLive (t .copy) ≡ false) (since : SinceBy (d .clock) (t .copy))
+    (apart : active (d .clock) t ≡ true → (i : ℕ) → active (d .clock) (timerAt d i) ≡ true → sameBooking (t .booking) (timerAt d i .booking) ≡ false)
+    (t-real : held (t .copy) ≡ true → (w : Window) × (windowIn (t .booking .pil) (t .booking .year) ≡ given w)) where
+  pre-timer : Pre (withTimer slot t d)
+  pre-timer =
+      let at-slot = getD-set noTimer t (d .timers) slot in
+      record {
+        clock-within = h .clock-within;
+        sixteen = (h .sixteen .0, length-set (d .timers) slot t ∙ h .sixteen .1);
+        stamps = h .stamps;
+        run-ons = λ i. elim (at-slot i) [ inl e ↦ rw (e .1) since | inr e ↦ rw e (h .run-ons i) ];
+        open-window = λ i. elim (at-slot i) [ inl e ↦ rw (e .1) (λ k l. absurd (true≢false (sym l ∙ dead))) | inr e ↦ rw e (h .open-window i) ];
+        no-twins = λ i j l. elim (at-slot i) [
+          | inl e ↦ elim (at-slot j) [ inl f ↦ absurd (omega (arith, e .0, f .0)) | inr f ↦ rw (e .1, f) (λ a b. apart a j b) ]
+          | inr e ↦ elim (at-slot j) [
+            | inl f ↦ rw (e, f .1) (λ a b. sameBooking-sym (timerAt d i .booking) (t .booking) ∙ apart b i a)
+            | inr f ↦ rw (e, f) (h .no-twins i j l)
+          ]
+        ];
+        real = λ i. elim (at-slot i) [ inl e ↦ rw (e .1) t-real | inr e ↦ rw e (h .real i) ];
+      }
+
+module _ (d : Desk) (h : Sound d) where
+  -- the test of refusal 13
+  unlike : (b : Booking) → some (λ t. active (d .clock) t && sameBooking b (t .booking)) (d .timers) ≡ false →
+      (i : ℕ) → active (d .clock) (timerAt d i) ≡ true → sameBooking b (timerAt d i .booking) ≡ false
+  unlike b e i a = rw a at (some-none (λ t. active (d .clock) t && sameBooking b (t .booking)) noTimer refl (d .timers) e i)
+
+  pub keeps : {c : Call} {e : Desk} → Step d c e → Sound e
+  keeps same = h
+  keeps (hears tuner t l k m) = sound-moment _ (pre-label tuner l (passTo t d) (pre-now (passTo t d) (sound-pass t d h k m)))
+  keeps (waits t k m) = sound-moment (passTo t d) (pre-now (passTo t d) (sound-pass t d h k m))
+  keeps (passes k) = sound-second d h k
+  keeps (adds b w slot e alone room) =
+      sound-moment _ (pre-timer d slot (record { booking = b; copy = Waiting }) (pre-now d h) refl tt (λ a. unlike b alone) (λ k. (w, e)))
+  keeps (cancels slot e) =
+      sound-moment _ (pre-timer d slot noTimer (pre-now d h) refl tt (λ a. absurd (true≢false (sym a))) (λ k. absurd (true≢false (sym k))))
+
+keeps-calls : (cs : List Call) (d : Desk) → Sound d → Sound (deskAfter cs d)
+unfolding deskAfter
+keeps-calls [] d h = h
+keeps-calls (c ∷ cs) d h = keeps-calls cs (left d (outcome c d)) (keeps d h (step d c))
+
+sound-fresh : Sound fresh
+unfolding moment nextTimer nextCopy
+sound-fresh =
+    let free = getD-same noTimer 16 in
+    record {
+      clock-within = omega arith;
+      sixteen = (refl, refl);
+      stamps = λ p. rw (getD-same noLabel 16 p) (omega arith);
+      run-ons = λ slot. rw (free slot) tt;
+      open-window = λ slot. rw (free slot) (λ k. absurd (true≢false (sym k)));
+      no-twins = λ i j l. rw (free i, free j) (λ a. absurd (true≢false (sym a)));
+      real = λ slot. rw (free slot) (λ k. absurd (true≢false (sym k)));
+      settled = refl;
+    }
+
+pub sound-reached : (cs : List Call) → Sound (reached cs)
+sound-reached cs = keeps-calls cs fresh sound-fresh

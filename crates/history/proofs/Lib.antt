@@ -1,0 +1,12 @@
+pub mod Lists
+pub mod Windows
+pub mod Refused
+pub mod Walked
+pub mod Waits
+pub mod Next
+pub mod Steps
+pub mod Keeps
+pub mod OneCopy
+pub mod Short
+pub mod Stays
+pub mod Proved

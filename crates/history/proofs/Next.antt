@@ -1,0 +1,117 @@
+-- How a copy can go on at a moment, by cases, and what they keep.
+use Prim.Native.Nat.{ℕ, _-_, _≤_, _<_}
+use mathlib.Core.Path.{_≡_, refl, sym}
+use mathlib.Core.Bool.{Bool, true, false, cond, true≢false}
+use mathlib.Core.List.{List}
+use native.Mathlib.Omega.{arith}
+use borrow.Author.Tests.{ltb-true}
+use lib.Dec.{ltb}
+use lib.ListN.{getD}
+use Rattle.rule.specs.Rule.{noLabel, openAt, endedAt, matches, sightOf, recordingAt, notLive, movesOr, fromRecording, runFor, fromRunningOn, goesOn, held, nextCopy, isLive}
+use Rattle.rule.specs.declared.Stamped.{Stamped}
+use Rattle.rule.specs.declared.Booking.{Booking}
+use Rattle.rule.specs.declared.Copy.{Copy}
+use Rattle.rule.specs.declared.Copy.the-variants.{Free, Waiting, Prepared, Recording, RunningOn}
+use Rattle.rule.specs.declared.Sight.{Sight}
+use Rattle.rule.specs.declared.Sight.the-variants.{Nothing, Prepare, Start}
+use Rattle.desk.proofs.Settle.{start-matches, not-held, nextCopy-open, nextCopy-ended, nextCopy-free}
+use Rattle.history.specs.Laws.{SinceBy}
+use Rattle.history.proofs.Windows.{matches-open}
+
+-- ── the cases ──────────────────────────────────────────────────────────────────────────────────────────────────────
+module _ (s : ℕ) (ls : List Stamped) (b : Booking) where
+  abbrev pub labelAt : ℕ → Stamped
+  labelAt q = getD ls q noLabel
+
+  pub data Next (c : Copy) : Copy → Type 0 where
+    free : c ≡ Free → Next c Free
+    waits : held c ≡ true → Next c Waiting
+    prepares : held c ≡ true → Next c Prepared
+    -- a label with PRF 0 starts or moves it
+    starts : (q : ℕ) → held c ≡ true → matches s b (labelAt q) ≡ true → labelAt q .prf ≡ false → Next c (recordingAt ls q)
+    -- it stays at its place
+    stays : (q : ℕ) (mi : Bool) → c ≡ Recording q mi → matches s b (labelAt q) ≡ true → Next c (recordingAt ls q)
+    -- it runs on from now, or still does
+    leaves : (p : ℕ) (mi : Bool) → c ≡ Recording p mi → endedAt s b ≡ false → Next c (RunningOn p s)
+    runs : (p v : ℕ) → c ≡ RunningOn p v → endedAt s b ≡ false → s - v < runFor → Next c (RunningOn p v)
+
+  next-not-live : (c : Copy) → held c ≡ true → (g : Sight) → sightOf s ls b ≡ g → Next c (notLive ls g)
+  next-not-live c h (Start q) e = let m = start-matches s ls b q e in starts q h (m .0) (m .1)
+  next-not-live c h Prepare e = prepares h
+  next-not-live c h Nothing e = waits h
+
+  next-moves : (c : Copy) → held c ≡ true → (g : Sight) → sightOf s ls b ≡ g → (n : Copy) → Next c n → Next c (movesOr ls g n)
+  next-moves c h (Start q) e n k = let m = start-matches s ls b q e in starts q h (m .0) (m .1)
+  next-moves c h Prepare e n k = k
+  next-moves c h Nothing e n k = k
+
+  next-open : endedAt s b ≡ false → (c : Copy) → Next c (goesOn s ls b c)
+  unfolding fromRecording fromRunningOn
+  next-open o Free = free refl
+  next-open o Waiting = next-not-live Waiting refl (sightOf s ls b) refl
+  next-open o Prepared = next-not-live Prepared refl (sightOf s ls b) refl
+  next-open o (Recording p mi) = go (matches s b (labelAt p)) refl
+    where
+      c : Copy
+      c = Recording p mi
+
+      left : (m : Bool) → Next c (cond m (notLive ls (sightOf s ls b)) (RunningOn p s))
+      left true = next-not-live c refl (sightOf s ls b) refl
+      left false = leaves p mi refl o
+
+      go : (t : Bool) → matches s b (labelAt p) ≡ t →
+          Next c (cond t (recordingAt ls p) (movesOr ls (sightOf s ls b) (cond mi (notLive ls (sightOf s ls b)) (RunningOn p s))))
+      go true e = stays p mi refl e
+      go false e = next-moves c refl (sightOf s ls b) refl _ (left mi)
+  next-open o (RunningOn p v) = next-moves (RunningOn p v) refl (sightOf s ls b) refl _ (go (ltb (s - v) runFor) refl)
+    where
+      go : (t : Bool) → ltb (s - v) runFor ≡ t → Next (RunningOn p v) (cond t (RunningOn p v) (notLive ls (sightOf s ls b)))
+      go true e = runs p v refl o (ltb-true (s - v) runFor e)
+      go false e = next-not-live (RunningOn p v) refl (sightOf s ls b) refl
+
+  pub next-is : (c : Copy) → Next c (nextCopy s ls b c)
+  next-is c = go (endedAt s b) (held c) refl refl
+    where
+      go : (t h : Bool) → endedAt s b ≡ t → held c ≡ h → Next c (nextCopy s ls b c)
+      go false h e k = rw (nextCopy-open s ls b e c) (next-open e c)
+      go true true e k = rw (nextCopy-ended s ls b e c k) (waits k)
+      go true false e k = rw (not-held c k, nextCopy-free s ls b) (free refl)
+
+  -- ── what is kept ─────────────────────────────────────────────────────────────────────────────────────────────────
+  pub next-held : {c n : Copy} → Next c n → held n ≡ held c
+  unfolding recordingAt
+  next-held (free e) = rw e
+  next-held (waits h) = sym h
+  next-held (prepares h) = sym h
+  next-held (starts q h m f) = sym h
+  next-held (stays q mi e m) = rw e
+  next-held (leaves p mi e o) = rw e
+  next-held (runs p v e o r) = rw e
+
+  -- a live copy's window is open
+  pub next-live : {c n : Copy} → Next c n → (endedAt s b ≡ false → isLive c ≡ true → openAt s b ≡ true) → isLive n ≡ true → openAt s b ≡ true
+  next-live (free e) h l = absurd (true≢false (sym l))
+  next-live (waits k) h l = absurd (true≢false (sym l))
+  next-live (prepares k) h l = absurd (true≢false (sym l))
+  next-live (starts q k m f) h l = matches-open b s (labelAt q) m
+  next-live (stays q mi e m) h l = matches-open b s (labelAt q) m
+  next-live (leaves p mi e o) h l = h o (rw e)
+  next-live (runs p v e o r) h l = h o (rw e)
+
+  -- no copy runs on from after s
+  pub next-since : {c n : Copy} → Next c n → SinceBy s c → SinceBy s n
+  unfolding recordingAt
+  next-since (free e) h = tt
+  next-since (waits k) h = tt
+  next-since (prepares k) h = tt
+  next-since (starts q k m f) h = tt
+  next-since (stays q mi e m) h = tt
+  next-since (leaves p mi e o) h = omega arith
+  next-since (runs p v e o r) h = rw e at h
+
+pub since-later : (s s′ : ℕ) → s ≤ s′ → (c : Copy) → SinceBy s c → SinceBy s′ c
+since-later s s′ k Free h = tt
+since-later s s′ k Waiting h = tt
+since-later s s′ k Prepared h = tt
+since-later s s′ k (Recording p mi) h = tt
+since-later s s′ k (RunningOn p v) h = omega arith

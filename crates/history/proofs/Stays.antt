@@ -1,0 +1,131 @@
+-- A recording stays with its place while its label stands there, and only a label with PRF 0 starts or moves a copy.
+use Prim.Native.Nat.{ℕ, zero, suc, _+_, _-_, _≤_}
+use mathlib.Core.Path.{_≡_, refl, sym, ap, _∙_}
+use mathlib.Core.Bool.{Bool, true, false, not, _&&_, true≢false}
+use mathlib.Core.List.{List, [], _∷_}
+use mathlib.Core.Logic.{_⊎_, inl, inr}
+use native.Mathlib.Omega.{arith}
+use borrow.Author.Tests.{leb-true, le-leb, eq-eqb, not-true}
+use lib.Dec.{leb, eqb}
+use lib.ListN.{getD}
+use Rattle.calendar.proofs.Cases.{and-true}
+use Rattle.rule.specs.Rule.{noLabel, standFor, stands, openAt, matches, at, recordingAt, fromRecording, nextCopy, nextTimer}
+use Rattle.rule.specs.declared.Stamped.{Stamped}
+use Rattle.rule.specs.declared.Booking.{Booking}
+use Rattle.rule.specs.declared.Copy.{Copy}
+use Rattle.rule.specs.declared.Copy.the-variants.{Recording}
+use Rattle.rule.specs.declared.Timer.{Timer}
+use Rattle.desk.specs.declared.Desk.{Desk}
+use Rattle.desk.specs.Moments.{noTimer, moment, clockedAt, nextSecond, walk, passTo}
+use Rattle.desk.specs.Calls.{active, roomIn, withLabel, withTimer, timerAt}
+use Rattle.desk.proofs.Settle.{lowest-passes, nextCopy-open}
+use Rattle.desk.proofs.Jump.{timerAt-moment, walk-clock}
+use Rattle.history.specs.Run.{Call, cancel, deskAfter}
+use Rattle.history.specs.Laws.{Sound, recordsAt}
+use Rattle.history.proofs.Lists.{getD-set}
+use Rattle.history.proofs.Windows.{open-not-ended, open-later, not-ended-before, matches-open}
+use Rattle.history.proofs.Next as next
+use Rattle.history.proofs.Next.{Next, next-is}
+use Rattle.history.proofs.Steps.{Step, same, hears, waits, passes, adds, cancels, step}
+use Rattle.history.proofs.OneCopy.{live-active}
+
+-- ── what starts a copy ─────────────────────────────────────────────────────────────────────────────────────────────
+module _ (s q : ℕ) (ls : List Stamped) (b : Booking) (c : Copy) (mi : Bool) where
+  abbrev Started : Type 0
+  Started = (matches s b (getD ls q noLabel) ≡ true) × ((getD ls q noLabel .prf ≡ false) ⊎ (recordsAt q c ≡ true))
+
+  next-starts : {n : Copy} → Next s ls b c n → n ≡ Recording q mi → Started
+  unfolding recordingAt
+  next-starts (next.free e) k = (cc, inl (cc))
+  next-starts (next.waits h) k = (cc, inl (cc))
+  next-starts (next.prepares h) k = (cc, inl (cc))
+  next-starts (next.starts r h m f) k = let z : r ≡ q = cc in rw (← z) (m, inl f)
+  next-starts (next.stays r i e m) k = let z : r ≡ q = cc in (rw (← z) m, inr (rw e (eq-eqb r q z)))
+  next-starts (next.leaves p i e o) k = (cc, inl (cc))
+  next-starts (next.runs p v e o r) k = (cc, inl (cc))
+
+  pub starts : nextCopy s ls b c ≡ Recording q mi → Started
+  starts e = next-starts (next-is s ls b c) e
+
+-- ── a match holds between ──────────────────────────────────────────────────────────────────────────────────────────
+stands-before : (s s′ : ℕ) (l : Stamped) → s ≤ s′ → stands s′ l ≡ true → stands s l ≡ true
+unfolding stands
+stands-before s s′ l h e =
+    let k = and-true (l .heard) (leb (s′ - l .stamp) standFor) e in
+    rw (k .0) (le-leb (s - l .stamp) standFor (omega (arith, leb-true (s′ - l .stamp) standFor (k .1))))
+
+-- from a second at which the window is open to one at which the label matches
+matches-between : (b : Booking) (l : Stamped) (o s s′ : ℕ) → o ≤ s → s ≤ s′ → openAt o b ≡ true → matches s′ b l ≡ true → matches s b l ≡ true
+unfolding matches
+matches-between b l o s s′ h k e m =
+    let x = and-true (stands s′ l && eqb (l .cni) (b .cni) && eqb (l .pil) (b .pil)) (openAt s′ b) m in
+    let y = and-true (stands s′ l && eqb (l .cni) (b .cni)) (eqb (l .pil) (b .pil)) (x .0) in
+    let z = and-true (stands s′ l) (eqb (l .cni) (b .cni)) (y .0) in
+    rw (stands-before s s′ l k (z .0), z .1, y .1)
+    (open-later b o s h e (not-ended-before b s s′ k (open-not-ended b s′ (x .1))))
+
+-- ── a recording, in a slot and at a place ──────────────────────────────────────────────────────────────────────────
+module _ (slot place : ℕ) (b : Booking) where
+  abbrev Records : Desk → Type 0
+  Records d = (mi : Bool) × (timerAt d slot ≡ record { booking = b; copy = Recording place mi })
+
+  abbrev MatchesAt : ℕ → Desk → Type 0
+  MatchesAt s d = matches s b (getD (d .places) place noLabel) ≡ true
+
+  -- with the MI of the label there
+  abbrev RecordsOn : Desk → Type 0
+  RecordsOn d = timerAt d slot ≡ record { booking = b; copy = recordingAt (d .places) place }
+
+  moment-records : (d : Desk) → Records d → MatchesAt (d .clock) d → RecordsOn (moment d)
+  unfolding moment nextTimer fromRecording
+  moment-records d r m =
+      timerAt-moment d slot
+      ∙ rw (r .1, nextCopy-open (d .clock) (d .places) b (open-not-ended b (d .clock) (matches-open b (d .clock) _ m)) (Recording place (r .0)), m)
+
+  walk-records : (n : ℕ) (d : Desk) → Records d → ((s : ℕ) → d .clock ≤ s → s ≤ d .clock + n → MatchesAt s d) → Records (walk n d)
+  unfolding walk nextSecond moment recordingAt
+  walk-records zero d r m = r
+  walk-records (suc n) d r m =
+      let s = suc (d .clock) in
+      walk-records n (nextSecond d) (_, moment-records (clockedAt s d) r (m s (omega arith) (omega arith))) (λ u h k. m u (omega arith) (omega arith))
+
+  pass-records : (t : ℕ) (d : Desk) → Records d → openAt (d .clock) b ≡ true → MatchesAt (passTo t d .clock) d → Records (passTo t d)
+  unfolding passTo
+  pass-records t d r o m =
+      let n = t - d .clock in
+      walk-records n d r λ s h k. matches-between b _ (d .clock) s (walk n d .clock) h (omega (arith, walk-clock n d)) o m
+
+  -- another slot takes a timer
+  other-records : (i : ℕ) (t : Timer) (d : Desk) → (slot ≡ i → ⊥) → Records d → Records (withTimer i t d)
+  other-records i t d n r = elim (getD-set noTimer t (d .timers) i slot) [ inl e ↦ absurd (n (e .0)) | inr e ↦ (r .0, e ∙ r .1) ]
+
+  -- the slot that adding uses holds no live copy
+  room-other : (i : ℕ) (d : Desk) → Sound d → Records d → roomIn d ≡ at i → slot ≡ i → ⊥
+  unfolding roomIn
+  room-other i d h r e k =
+      let live : active (d .clock) (timerAt d slot) ≡ true = live-active d h slot (rw (r .1)) in
+      let free = not-true _ (lowest-passes (λ t. not (active (d .clock) t)) noTimer (d .timers) i e) in
+      true≢false (sym live ∙ rw k free)
+
+  records-open : (d : Desk) → Sound d → Records d → openAt (d .clock) b ≡ true
+  records-open d h r = (rw (r .1) at (h .open-window slot)) refl
+
+  step-records : {c : Call} (d : Desk) {e : Desk} → Sound d → Records d → (c ≡ cancel slot → ⊥) → Step d c e →
+      MatchesAt (e .clock) d → MatchesAt (e .clock) e → RecordsOn e
+  unfolding moment nextSecond
+  step-records d h r n same m l = ap (λ x. timerAt x slot) (sym (h .settled)) ∙ moment-records d r m
+  step-records d h r n (hears tuner t x k z) m l = moment-records (withLabel tuner x (passTo t d)) (pass-records t d r (records-open d h r) m) l
+  step-records d h r n (waits t k z) m l = moment-records (passTo t d) (pass-records t d r (records-open d h r) m) l
+  step-records d h r n (passes k) m l = moment-records (clockedAt (suc (d .clock)) d) r l
+  step-records d h r n (adds x w i e alone room) m l = moment-records (withTimer i _ d) (other-records i _ d (room-other i d h r room) r) l
+  step-records d h r n (cancels i e) m l = moment-records (withTimer i noTimer d) (other-records i noTimer d (λ k. n (e ∙ ap cancel (sym k))) r) l
+
+pub stays : (d : Desk) → Sound d → (c : Call) (slot place : ℕ) (mi : Bool) → (c ≡ cancel slot → ⊥) →
+    let e = deskAfter (c ∷ []) d in let b = timerAt d slot .booking in
+    timerAt d slot .copy ≡ Recording place mi → matches (e .clock) b (getD (d .places) place noLabel) ≡ true →
+    matches (e .clock) b (getD (e .places) place noLabel) ≡ true →
+    timerAt e slot ≡ record { booking = b; copy = recordingAt (e .places) place }
+unfolding deskAfter
+stays d h c slot place mi n r =
+    let b = timerAt d slot .booking in
+    step-records slot place b d h (mi, ap (λ x. record { booking = b; copy = x }) r) n (step d c)

@@ -1,0 +1,122 @@
+-- What a call leaves of the desk, by cases.
+use Prim.Native.Nat.{ℕ, _≤_, _<_}
+use mathlib.Core.Path.{_≡_, refl}
+use mathlib.Core.Bool.{Bool, true, false, cond, _&&_, true≢false}
+use mathlib.Core.List.{List, [], _∷_}
+use borrow.Author.Tests.{leb-false, ltb-false}
+use lib.Dec.{leb}
+use Rattle.hamming.specs.Answer.{Answer, refused, given, Row, firstOf, andThen}
+use Rattle.label.specs.declared.Label.{Label}
+use Rattle.label.specs.Packet.{readingOf}
+use Rattle.calendar.specs.declared.Window.{Window}
+use Rattle.calendar.specs.Calendar.{windowIn, clockEnd}
+use Rattle.rule.specs.Rule.{Found, nowhere, at, some}
+use Rattle.rule.specs.declared.Booking.{Booking}
+use Rattle.rule.specs.declared.Copy.the-variants.{Waiting}
+use Rattle.desk.specs.declared.Desk.{Desk}
+use Rattle.desk.specs.Moments.{noTimer, moment, nextSecond, passTo}
+use Rattle.desk.specs.Calls.{Told, Says, tunerRows, timeRows, labelRows, withLabel, hearingAt, packetOf, waitOf, secondOf, active, sameBooking, roomIn, isNowhere, slotOf, withTimer, addRows, addOf, slotRows, cancelOf, askOf}
+use Rattle.history.specs.Run.{Call, packet, wait, second, add, cancel, ask, live, onlyDesk, toldToo, saysOnly, outcome, left}
+
+pub data Step (d : Desk) (c : Call) : Desk → Type 0 where
+  -- it is refused, or only asks
+  same : Step d c d
+  hears : (tuner t : ℕ) (l : Label) → d .clock ≤ t → t ≤ clockEnd → Step d c (moment (withLabel tuner l (passTo t d)))
+  waits : (t : ℕ) → d .clock ≤ t → t ≤ clockEnd → Step d c (moment (passTo t d))
+  passes : d .clock < clockEnd → Step d c (nextSecond d)
+  -- no timer that is held and not ended has the booking, and the slot is not of such a timer
+  adds : (b : Booking) (w : Window) (slot : ℕ) → windowIn (b .pil) (b .year) ≡ given w →
+      some (λ t. active (d .clock) t && sameBooking b (t .booking)) (d .timers) ≡ false → roomIn d ≡ at slot →
+      Step d c (moment (withTimer slot (record { booking = b; copy = Waiting }) d))
+  cancels : (slot : ℕ) → c ≡ cancel slot → Step d c (moment (withTimer slot noTimer d))
+
+-- ── what is given, if it is ────────────────────────────────────────────────────────────────────────────────────────
+abbrev Gives : {A : Type 0} → (A → Type 0) → Answer A → Type 0
+Gives P (refused n) = Unit {0}
+Gives P (given a) = P a
+
+-- no row applies
+abbrev Passed : List Row → Type 0
+Passed [] = Unit {0}
+Passed (row ∷ rows) = (row .0 ≡ false) × Passed rows
+
+module _ {A : Type 0} (P : A → Type 0) where
+  gives-first : (rows : List Row) (a : A) → (Passed rows → P a) → Gives P (firstOf rows a)
+  gives-first [] a h = h tt
+  gives-first (row ∷ rows) a h = go (row .0) refl (gives-first rows a)
+    where
+      go : (t : Bool) → row .0 ≡ t → ((Passed rows → P a) → Gives P (firstOf rows a)) → Gives P (cond t (refused (row .1)) (firstOf rows a))
+      go true e ih = tt
+      go false e ih = ih (λ k. h (e, k))
+
+  gives-then : {B : Type 0} (Q : B → Type 0) (x : Answer B) (next : B → Answer A) → Gives Q x → ((y : B) → Q y → Gives P (next y)) →
+      Gives P (andThen x next)
+  gives-then Q (refused n) next g h = tt
+  gives-then Q (given y) next g h = h y g
+
+gives-self : {A : Type 0} (x : Answer A) → Gives (λ y. x ≡ given y) x
+gives-self (refused n) = tt
+gives-self (given y) = refl
+
+-- neither before the clock nor past its end
+in-time : (d : Desk) (t : ℕ) → Passed (timeRows d t) → (d .clock ≤ t) × (t ≤ clockEnd)
+in-time d t k = (ltb-false t (d .clock) (k .0), ltb-false clockEnd t (k .1 .0))
+
+-- ── the calls ──────────────────────────────────────────────────────────────────────────────────────────────────────
+room-at : (r : Found) → isNowhere r ≡ false → r ≡ at (slotOf r)
+room-at nowhere e = absurd (true≢false e)
+room-at (at i) e = refl
+
+module _ (d : Desk) (c : Call) where
+  step-desk : (a : Answer Desk) → Gives (Step d c) a → Step d c (left d (onlyDesk a))
+  step-desk (refused n) h = same
+  step-desk (given e) h = h
+
+  abbrev LeftBy : Told → Type 0
+  LeftBy o = Step d c (o .desk)
+
+  step-told : (a : Answer Told) → Gives LeftBy a → Step d c (left d (toldToo a))
+  step-told (refused n) h = same
+  step-told (given o) h = h
+
+  step-packet : (tuner t : ℕ) (bytes : List ℕ) → Gives (Step d c) (packetOf tuner t bytes d)
+  unfolding packetOf hearingAt
+  step-packet tuner t bytes =
+      let rows = tunerRows d tuner t in
+      gives-then (Step d c) (λ p. Passed rows) (firstOf rows bytes) _ (gives-first (λ p. Passed rows) rows bytes (λ k. k))
+      λ p k. gives-then (Step d c) (λ l. readingOf p ≡ given l) (readingOf p) _ (gives-self (readingOf p))
+      λ l r. gives-first (Step d c) (labelRows l) (moment (withLabel tuner l (passTo t d)))
+      λ u. let i = in-time d t (k .1) in hears tuner t l (i .0) (i .1)
+
+  step-wait : (t : ℕ) → Gives LeftBy (waitOf t d)
+  unfolding waitOf
+  step-wait t = gives-first LeftBy (timeRows d t) _ λ k. let i = in-time d t k in waits t (i .0) (i .1)
+
+  step-second : Gives (Step d c) (secondOf d)
+  unfolding secondOf
+  step-second = gives-first (Step d c) ((leb clockEnd (d .clock), 10) ∷ []) (nextSecond d) λ k. passes (leb-false clockEnd (d .clock) (k .0))
+
+  step-add : (b : Booking) → Gives LeftBy (addOf b d)
+  unfolding addOf
+  step-add b =
+      let window = windowIn (b .pil) (b .year) in
+      gives-then LeftBy (λ w. window ≡ given w) window _ (gives-self window)
+      λ w e. gives-first LeftBy (addRows b d w) _ λ k. adds b w (slotOf (roomIn d)) e (k .1 .0) (room-at (roomIn d) (k .1 .1 .0))
+
+  step-cancel : (slot : ℕ) → c ≡ cancel slot → Gives (Step d c) (cancelOf slot d)
+  unfolding cancelOf
+  step-cancel slot e = gives-first (Step d c) (slotRows slot d) (moment (withTimer slot noTimer d)) λ k. cancels slot e
+
+  step-asked : (a : Answer Says) → Step d c (left d (saysOnly d a))
+  step-asked (refused n) = same
+  step-asked (given s) = same
+
+pub step : (d : Desk) (c : Call) → Step d c (left d (outcome c d))
+unfolding outcome
+step d (packet tuner t bytes) = step-desk d _ (packetOf tuner t bytes d) (step-packet d _ tuner t bytes)
+step d (wait t) = step-told d _ (waitOf t d) (step-wait d _ t)
+step d second = step-desk d _ (secondOf d) (step-second d _)
+step d (add b) = step-told d _ (addOf b d) (step-add d _ b)
+step d (cancel slot) = step-desk d _ (cancelOf slot d) (step-cancel d _ slot refl)
+step d (ask slot) = step-asked d _ (askOf slot d)
+step d live = same

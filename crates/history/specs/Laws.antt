@@ -1,0 +1,116 @@
+-- Demand 3 (document 01, 'The second-by-second rule' and 'How tight the statements are'). Proved in proofs/Proved.antt.
+use Prim.Native.Nat.{ℕ, _+_, _≤_, _<_}
+use mathlib.Core.Path.{_≡_}
+use mathlib.Core.Bool.{Bool, true, false, _&&_}
+use mathlib.Core.List.{List, [], _∷_, _++_, map}
+use mathlib.Core.Logic.{_⊎_}
+use lib.Dec.{eqb}
+use lib.ListN.{length, getD}
+use Rattle.hamming.specs.Answer.{Answer, refused, given}
+use Rattle.calendar.specs.Calendar.{clockEnd, windowIn}
+use Rattle.calendar.specs.declared.Window.{Window}
+use Rattle.rule.specs.Rule.{noLabel, stands, openAt, matches, recordingAt, nextCopy, held, isLive, liveTimer}
+use Rattle.rule.specs.declared.Stamped.{Stamped}
+use Rattle.rule.specs.declared.Booking.{Booking}
+use Rattle.rule.specs.declared.Copy.{Copy}
+use Rattle.rule.specs.declared.Copy.the-variants.{Free, Waiting, Prepared, Recording, RunningOn}
+use Rattle.rule.specs.declared.Timer.{Timer}
+use Rattle.desk.specs.declared.Desk.{Desk}
+use Rattle.desk.specs.Moments.{fresh, moment, walk, quiet, walkedIn, walkedTo, count}
+use Rattle.desk.specs.Calls.{packetOf, askOf, active, sameBooking, timerAt}
+use Rattle.history.specs.Run.{Call, wait, cancel, deskAfter, answersOf, reached, accepted, givenOnes}
+
+abbrev pub Each : {A : Type 0} → (A → Type 0) → List A → Type 0
+Each P [] = Unit {0}
+Each P (x ∷ xs) = P x × Each P xs
+
+-- the sum of the numbers that are told
+abbrev pub tell : List ℕ → ℕ
+tell [] = 0
+tell (n ∷ ns) = n + tell ns
+
+abbrev pub told : Answer (List ℕ) → ℕ
+told (refused n) = 0
+told (given ns) = tell ns
+
+abbrev pub toldInAll : List (Answer (List ℕ)) → ℕ
+toldInAll [] = 0
+toldInAll (a ∷ rest) = told a + toldInAll rest
+
+-- k is 'the least number after which no label stands and nothing is live, or the whole wait if that is less', of a wait of n seconds
+pub record Walked (n : ℕ) (d : Desk) (k : ℕ) : Type 0 where
+  pub within : k ≤ n
+  pub before : (j : ℕ) → j < k → quiet (walk j d) ≡ false
+  pub then-quiet : k < n → quiet (walk k d) ≡ true
+
+-- a live copy of a programme
+abbrev pub copyOf : ℕ → ℕ → Timer → Bool
+copyOf cni pil t = liveTimer t && eqb (t .booking .cni) cni && eqb (t .booking .pil) pil
+
+-- the second since which a copy runs on is not after s
+abbrev pub SinceBy : ℕ → Copy → Type 0
+SinceBy s Free = Unit {0}
+SinceBy s Waiting = Unit {0}
+SinceBy s Prepared = Unit {0}
+SinceBy s (Recording p mi) = Unit {0}
+SinceBy s (RunningOn p v) = v ≤ s
+
+-- what every reachable desk keeps
+pub record Sound (d : Desk) : Type 0 where
+  pub clock-within : d .clock ≤ clockEnd
+  pub sixteen : (length (d .places) ≡ 16) × (length (d .timers) ≡ 16)
+  -- no stamp and no run-on lies after the clock
+  pub stamps : (p : ℕ) → getD (d .places) p noLabel .stamp ≤ d .clock
+  pub run-ons : (slot : ℕ) → SinceBy (d .clock) (timerAt d slot .copy)
+  -- a live copy's window is open
+  pub open-window : (slot : ℕ) → isLive (timerAt d slot .copy) ≡ true → openAt (d .clock) (timerAt d slot .booking) ≡ true
+  -- no two timers that are held and not ended are the same
+  pub no-twins : (i j : ℕ) → i < j → active (d .clock) (timerAt d i) ≡ true → active (d .clock) (timerAt d j) ≡ true →
+      sameBooking (timerAt d i .booking) (timerAt d j .booking) ≡ false
+  -- every timer's PIL is real in its year
+  pub real : (slot : ℕ) → held (timerAt d slot .copy) ≡ true → (w : Window) × (windowIn (timerAt d slot .booking .pil) (timerAt d slot .booking .year) ≡ given w)
+  -- one more moment changes nothing
+  pub settled : moment d ≡ d
+
+-- a copy records at a place
+abbrev pub recordsAt : ℕ → Copy → Bool
+recordsAt q Free = false
+recordsAt q Waiting = false
+recordsAt q Prepared = false
+recordsAt q (Recording p mi) = eqb p q
+recordsAt q (RunningOn p v) = false
+
+pub record Laws : Type 0 where
+  -- the desk after the calls, what it says of every slot and every answer are those of the rule on the accepted calls alone
+  pub accepted-alone : (cs : List Call) → (reached (accepted cs fresh) ≡ reached cs)
+      × (answersOf (accepted cs fresh) fresh ≡ givenOnes (answersOf cs fresh))
+      × ((slot : ℕ) → askOf slot (reached (accepted cs fresh)) ≡ askOf slot (reached cs))
+  -- a wait cut anywhere, any number of times, changes no later answer and not the desk, and the walked counts add up
+  pub cut : (cs : List Call) (us : List ℕ) (t : ℕ) (later : List Call) → Each (λ u. u ≤ t) us → (reached cs) .clock ≤ t → t ≤ clockEnd →
+      let parts = map wait us ++ wait t ∷ [] in
+      (deskAfter parts (reached cs) ≡ deskAfter (wait t ∷ []) (reached cs))
+      × (answersOf later (deskAfter parts (reached cs)) ≡ answersOf later (deskAfter (wait t ∷ []) (reached cs)))
+      × (toldInAll (answersOf parts (reached cs)) ≡ walkedTo t (reached cs))
+  -- nor does a wait put before a packet, up to its second
+  pub wait-before : (cs : List Call) (u tuner t : ℕ) (bytes : List ℕ) → u ≤ t →
+      packetOf tuner t bytes (deskAfter (wait u ∷ []) (reached cs)) ≡ packetOf tuner t bytes (reached cs)
+  -- no programme ever has two live copies: after every call, and at every second inside a wait
+  pub one-copy : (cs : List Call) (n cni pil : ℕ) → (reached cs) .clock + n ≤ clockEnd → count (copyOf cni pil) (walk n (reached cs) .timers) ≤ 1
+  pub no-two : (cs : List Call) (n i j : ℕ) → (reached cs) .clock + n ≤ clockEnd → i < j →
+      let t = timerAt (walk n (reached cs)) i in let u = timerAt (walk n (reached cs)) j in
+      liveTimer t ≡ true → liveTimer u ≡ true → t .booking .cni ≡ u .booking .cni → t .booking .pil ≡ u .booking .pil → ⊥
+  -- the walked count is that least number, no other number is, and it is never more than 36
+  pub walked-least : (n : ℕ) (d : Desk) → Walked n d (walkedIn n d)
+  pub walked-unique : (n k : ℕ) (d : Desk) → Walked n d k → k ≡ walkedIn n d
+  pub walked-short : (cs : List Call) (t : ℕ) → walkedTo t (reached cs) ≤ 36
+  -- every reachable desk, after every call and at every second inside a wait
+  pub sound : (cs : List Call) (n : ℕ) → (reached cs) .clock + n ≤ clockEnd → Sound (walk n (reached cs))
+  -- a recording stays with its place while its own label stands there, whatever is heard elsewhere
+  pub stays : (cs : List Call) (c : Call) (slot place : ℕ) (mi : Bool) → (c ≡ cancel slot → ⊥) →
+      let d = reached cs in let e = deskAfter (c ∷ []) d in let b = timerAt d slot .booking in
+      timerAt d slot .copy ≡ Recording place mi → matches (e .clock) b (getD (d .places) place noLabel) ≡ true →
+      matches (e .clock) b (getD (e .places) place noLabel) ≡ true →
+      timerAt e slot ≡ record { booking = b; copy = recordingAt (e .places) place }
+  -- only a label with PRF 0 starts or moves a copy
+  pub starts : (s q : ℕ) (ls : List Stamped) (b : Booking) (c : Copy) (mi : Bool) → nextCopy s ls b c ≡ Recording q mi →
+      (matches s b (getD ls q noLabel) ≡ true) × ((getD ls q noLabel .prf ≡ false) ⊎ (recordsAt q c ≡ true))

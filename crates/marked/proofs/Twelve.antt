@@ -1,0 +1,63 @@
+-- Example 12: the seconds up to the first packet pass at once, since the desk is quiet; all else is computed.
+use Prim.Native.Nat.{ℕ}
+use mathlib.Core.Path.{_≡_, refl, sym, ap, _∙_}
+use mathlib.Core.List.{List, [], _∷_}
+use Rattle.hamming.specs.Byte.{D, good, distance, nearTo, nibbleOf}
+use Rattle.calendar.specs.Calendar.{leap, daysIn, dayExists, realIn, sumBelow, daysBeforeMonth, daysOfYear, daysBeforeYear, dayNumber, opening, closing, opensAt, closesAt, windowIn}
+use Rattle.label.specs.Packet.{readingOf, byteFor, writingOf}
+use Rattle.label.specs.Pil.{serviceOf}
+use Rattle.rule.specs.Rule.{stands, heardAt, openAt, endedAt, matches, sightOf, recordingAt, fromRecording, fromRunningOn, nextCopy, nextTimer}
+use Rattle.desk.specs.Moments.{noTimer, fresh, clockedAt, moment, nextSecond, walk, passTo, quiet, walkedIn, walkedTo, liveCount}
+use Rattle.desk.specs.Calls.{withLabel, withTimer, hearingAt, packetOf, waitOf, roomIn, addOf, askOf}
+use Rattle.history.specs.Run.{Call, packet, wait, add, ask, live, Done, outcome, answersOf, deskAfter}
+use Rattle.desk.proofs.Fast.{fastTo, fast-pass}
+use Rattle.hamming.specs.Answer.{Answer, given}
+use Rattle.label.specs.Packet.{labelIn}
+use Rattle.rule.specs.declared.Booking.{Booking}
+use Rattle.rule.specs.declared.Copy.the-variants.{Waiting}
+use Rattle.desk.specs.declared.Desk.{Desk}
+use Rattle.marked.specs.Marked.{packetA, takenOver, plainly}
+
+-- an accepted call's answer, and then the others'
+after-given : (c : Call) (cs : List Call) (d : Desk) (o : Done) → outcome c d ≡ given o → answersOf (c ∷ cs) d ≡ given (o .tells) ∷ answersOf cs (o .desk)
+unfolding answersOf
+after-given c cs d o e = rw e
+
+abbrev first : ℕ
+first = 0x04C5DF38
+
+abbrev booking : Booking
+booking = record { cni = 0x1D65; pil = 0x7BCDE; year = 2 }
+
+-- the desk with the timer, and with the first packet's label
+abbrev booked : Desk
+booked = moment (withTimer 0 (record { booking = booking; copy = Waiting }) fresh)
+
+abbrev recording : Desk
+recording = moment (withLabel 0 (labelIn packetA) (moment (clockedAt first booked)))
+
+added : outcome (add booking) fresh ≡ given (record { tells = 0 ∷ []; desk = booked })
+unfolding D good distance nearTo nibbleOf readingOf leap daysIn dayExists realIn sumBelow daysBeforeMonth daysOfYear daysBeforeYear dayNumber opening closing opensAt closesAt windowIn byteFor writingOf serviceOf stands heardAt openAt endedAt matches sightOf recordingAt fromRecording fromRunningOn nextCopy nextTimer moment nextSecond quiet walkedIn walkedTo liveCount hearingAt packetOf waitOf roomIn addOf askOf outcome answersOf deskAfter
+added = refl
+
+at-first : fastTo 1 first booked ≡ moment (clockedAt first booked)
+unfolding fastTo D good distance nearTo nibbleOf readingOf leap daysIn dayExists realIn sumBelow daysBeforeMonth daysOfYear daysBeforeYear dayNumber opening closing opensAt closesAt windowIn byteFor writingOf serviceOf stands heardAt openAt endedAt matches sightOf recordingAt fromRecording fromRunningOn nextCopy nextTimer moment nextSecond quiet walkedIn walkedTo liveCount hearingAt packetOf waitOf roomIn addOf askOf outcome answersOf deskAfter
+at-first = refl
+
+heard : outcome (packet 0 first packetA) booked ≡ given (record { tells = []; desk = recording })
+unfolding D good distance nearTo nibbleOf readingOf leap daysIn dayExists realIn sumBelow daysBeforeMonth daysOfYear daysBeforeYear dayNumber opening closing opensAt closesAt windowIn byteFor writingOf serviceOf stands heardAt openAt endedAt matches sightOf recordingAt fromRecording fromRunningOn nextCopy nextTimer moment nextSecond quiet walkedIn walkedTo liveCount hearingAt packetOf waitOf roomIn addOf askOf outcome answersOf deskAfter
+heard = ap (λ (d : Desk). given (record { tells = []; desk = moment (withLabel 0 (labelIn packetA) d) })) (sym (fast-pass 1 first booked) ∙ at-first)
+
+rest : List Call
+rest = live ∷ packet 4 0x04C5DF3D packetA ∷ live ∷ wait 0x04C5DF42 ∷ ask 0 ∷ packet 1 0x04C5DF42 packetA ∷ ask 0 ∷ live ∷ []
+
+said-then : plainly (answersOf rest recording) ≡ 1 ∷ 8 ∷ 1 ∷ 10 ∷ 3 ∷ 0 ∷ 0 ∷ 2 ∷ 4 ∷ 1 ∷ []
+unfolding rest D good distance nearTo nibbleOf readingOf leap daysIn dayExists realIn sumBelow daysBeforeMonth daysOfYear daysBeforeYear dayNumber opening closing opensAt closesAt windowIn byteFor writingOf serviceOf stands heardAt openAt endedAt matches sightOf recordingAt fromRecording fromRunningOn nextCopy nextTimer moment nextSecond walk passTo quiet walkedIn walkedTo liveCount hearingAt packetOf waitOf roomIn addOf askOf outcome answersOf deskAfter
+said-then = refl
+
+pub twelve : plainly (answersOf takenOver fresh) ≡ 0 ∷ 0 ∷ 1 ∷ 8 ∷ 1 ∷ 10 ∷ 3 ∷ 0 ∷ 0 ∷ 2 ∷ 4 ∷ 1 ∷ []
+unfolding rest
+twelve =
+    ap plainly (after-given (add booking) (packet 0 first packetA ∷ rest) fresh (record { tells = 0 ∷ []; desk = booked }) added)
+    ∙ ap (λ (as′ : List (Answer (List ℕ))). 0 ∷ plainly as′) (after-given (packet 0 first packetA) rest booked (record { tells = []; desk = recording }) heard)
+    ∙ ap (λ (ns : List ℕ). 0 ∷ 0 ∷ ns) said-then

@@ -1,0 +1,21 @@
+-- Ages in seconds, compared without a difference: a sum in 64 bits does not wrap.
+use Prim.Native.Nat.{ℕ, _+_, _-_, _≤_, _<_}
+use mathlib.Core.Path.{_≡_, sym, _∙_}
+use native.Mathlib.Omega.{arith}
+use native.Mathlib.Decide.{decLe}
+use borrow.Author.Tests.{le-leb, lt-leb, lt-ltb, le-ltb}
+use lib.Dec.{leb, ltb}
+
+pub at-most : (s v n : ℕ) → leb s (v + n) ≡ leb (s - v) n
+at-most s v n =
+    elim (decLe s (v + n)) [
+      | yes h ↦ le-leb s (v + n) h ∙ sym (le-leb (s - v) n (omega arith))
+      | no h ↦ lt-leb s (v + n) (omega arith) ∙ sym (lt-leb (s - v) n (omega arith))
+    ]
+
+pub below : (s v n : ℕ) → 0 < n → ltb s (v + n) ≡ ltb (s - v) n
+below s v n p =
+    elim (decLe (v + n) s) [
+      | yes h ↦ le-ltb s (v + n) h ∙ sym (le-ltb (s - v) n (omega arith))
+      | no h ↦ lt-ltb s (v + n) (omega arith) ∙ sym (lt-ltb (s - v) n (omega arith))
+    ]

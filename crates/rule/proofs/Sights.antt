@@ -1,0 +1,100 @@
+-- What a timer sees: its labels share the window's test, so a look may leave it out and add it at the end.
+use Prim.Native.Nat.{ℕ, suc, _+_, _≤_, _<_}
+use mathlib.Core.Path.{_≡_, refl, sym, ap, _∙_}
+use mathlib.Core.Bool.{Bool, true, false, cond, not, _&&_, _||_, and-true, and-false, or-assoc, or-false}
+use mathlib.Core.List.{List, [], _∷_}
+use lib.ListN.{length, getD, drop}
+use Rattle.rule.specs.Rule.{noLabel, nowhere, lowestFrom, some, sightBy, openAt, matches, sightOf}
+use Rattle.rule.specs.Look.{named, lookOf}
+use Rattle.rule.specs.declared.Stamped.{Stamped}
+use Rattle.rule.specs.declared.Booking.{Booking}
+use Rattle.rule.specs.declared.Sight.{Sight}
+use Rattle.rule.specs.declared.Sight.the-variants.{Nothing, Prepare, Start}
+use Rattle.rule.proofs.Search.{lowest-hit, lowest-miss, lowest-none, some-more, some-none}
+
+pub match-named : (s : ℕ) (b : Booking) (l : Stamped) → matches s b l ≡ (named s b l && openAt s b)
+unfolding matches named
+match-named s b l = refl
+
+-- a label that is named and has not PRF 0 has PRF 1
+prepares : (a p : Bool) → (a && not p) ≡ false → a ≡ (a && p)
+prepares true true e = refl
+prepares true false e = e
+prepares false p e = refl
+
+-- ── one look over the places ───────────────────────────────────────────────────────────────────────────────────────
+module _ (s : ℕ) (b : Booking) (ls : List Stamped) where
+  -- what is seen from place i on, where p says whether a label with PRF 1 was seen before
+  abbrev pub seenFrom : ℕ → Bool → Sight
+  seenFrom i p =
+      sightBy (lowestFrom (λ l. named s b l && not (l .prf)) i (drop i ls)) (p || some (λ l. named s b l && l .prf) (drop i ls))
+
+  pub seen-all : lookOf s ls b ≡ seenFrom 0 false
+  unfolding lookOf
+  seen-all = refl
+
+  module _ (i : ℕ) (p : Bool) where
+    pub seen-none : length ls ≤ i → seenFrom i p ≡ sightBy nowhere p
+    seen-none h = rw (lowest-none (λ l. named s b l && not (l .prf)) ls i h, some-none (λ l. named s b l && l .prf) ls i h, or-false p)
+
+    module _ {m : Bool} (h : i < length ls) (e : m ≡ named s b (getD ls i noLabel)) where
+      pub seen-hit : (m && not (getD ls i noLabel .prf)) ≡ true → seenFrom i p ≡ Start i
+      seen-hit t = rw (lowest-hit (λ l. named s b l && not (l .prf)) ls i noLabel h (rw (← e) t))
+
+      pub seen-miss : (m && not (getD ls i noLabel .prf)) ≡ false → seenFrom i p ≡ seenFrom (i + 1) (p || m)
+      seen-miss t =
+          rw (
+            lowest-miss (λ l. named s b l && not (l .prf)) ls i noLabel h (rw (← e) t),
+            some-more (λ l. named s b l && l .prf) ls i noLabel h,
+            ← e,
+            ← prepares m (getD ls i noLabel .prf) t,
+            or-assoc p m,
+          )
+
+-- ── the window, once for all places ────────────────────────────────────────────────────────────────────────────────
+lowest-open : {A : Type 0} (f g : A → Bool) → ((x : A) → f x ≡ g x) → (i : ℕ) (xs : List A) → lowestFrom f i xs ≡ lowestFrom g i xs
+lowest-open f g h i [] = refl
+lowest-open f g h i (x ∷ xs) = rw (h x, lowest-open f g h (suc i) xs)
+
+some-open : {A : Type 0} (f g : A → Bool) → ((x : A) → f x ≡ g x) → (xs : List A) → some f xs ≡ some g xs
+some-open f g h [] = refl
+some-open f g h (x ∷ xs) = rw (h x, some-open f g h xs)
+
+lowest-shut : {A : Type 0} (f : A → Bool) → ((x : A) → f x ≡ false) → (i : ℕ) (xs : List A) → lowestFrom f i xs ≡ nowhere
+lowest-shut f h i [] = refl
+lowest-shut f h i (x ∷ xs) = rw (h x, lowest-shut f h (suc i) xs)
+
+some-shut : {A : Type 0} (f : A → Bool) → ((x : A) → f x ≡ false) → (xs : List A) → some f xs ≡ false
+some-shut f h [] = refl
+some-shut f h (x ∷ xs) = rw (h x, some-shut f h xs)
+
+either : {A : Type 0} (o : Bool) (x : A) → cond o x x ≡ x
+either true x = refl
+either false x = refl
+
+module _ (s : ℕ) (ls : List Stamped) (b : Booking) where
+  pub sight-open : openAt s b ≡ true → sightOf s ls b ≡ lookOf s ls b
+  unfolding sightOf lookOf
+  sight-open e =
+      let m : (l : Stamped) → matches s b l ≡ named s b l = λ l. rw (match-named s b l, e, and-true) in
+      rw (
+        lowest-open (λ l. matches s b l && not (l .prf)) (λ l. named s b l && not (l .prf)) (λ l. rw (m l)) 0 ls,
+        some-open (λ l. matches s b l && l .prf) (λ l. named s b l && l .prf) (λ l. rw (m l)) ls,
+      )
+
+  pub sight-shut : openAt s b ≡ false → sightOf s ls b ≡ Nothing
+  unfolding sightOf
+  sight-shut e =
+      let m : (l : Stamped) → matches s b l ≡ false = λ l. rw (match-named s b l, e, and-false) in
+      rw (lowest-shut (λ l. matches s b l && not (l .prf)) (λ l. rw (m l)) 0 ls, some-shut (λ l. matches s b l && l .prf) (λ l. rw (m l)) ls)
+
+  -- by the test's value
+  sight-by : (o : Bool) → openAt s b ≡ o → sightOf s ls b ≡ cond o (lookOf s ls b) Nothing
+  sight-by true e = sight-open e
+  sight-by false e = sight-shut e
+
+  pub sight-look : sightOf s ls b ≡ cond (openAt s b) (lookOf s ls b) Nothing
+  sight-look = sight-by (openAt s b) refl
+
+  pub sight-nothing : lookOf s ls b ≡ Nothing → sightOf s ls b ≡ Nothing
+  sight-nothing e = rw (sight-look, e) (either (openAt s b) Nothing)

@@ -1,0 +1,16 @@
+-- By the window's test.
+use borrow.Author.Needs.{needs}
+use Rattle.rule.proofs.matching.if_open.Statement.{statement}
+use Rattle.rule.proofs.matching.if_open.Tie as tie
+
+open-at-requires : tie.Need-open-at-requires
+open-at-requires c κs = search needs
+
+returns : tie.Need-returns
+returns c = rw (← c .before .open-at .ensures, c .if1 .taken)
+
+returns-2 : tie.Need-returns-2
+returns-2 c = rw (← c .before .open-at .ensures, c .if1 .left)
+
+pub if-open-spec : {M : Type 1} → statement M
+if-open-spec = tie.close (tie.spec open-at-requires returns returns-2)

@@ -1,0 +1,74 @@
+-- The loop's invariant: what the whole look sees is what it sees from place i on, where `prepared` says whether PRF 1 was seen before.
+use Prim.Native.Nat.{_≤_, _-_}
+use mathlib.Core.Path.{_≡_, sym, _∙_}
+use lib.ListN.{length}
+use borrow.Author.Needs.{needs}
+use Rattle.rule.specs.Look.{lookOf}
+use Rattle.rule.proofs.Sights.{seenFrom, seen-all, seen-hit, seen-miss, seen-none}
+use Rattle.rule.proofs.matching.look.Statement.{statement}
+use Rattle.rule.proofs.matching.look.Tie as tie
+
+abbrev Inv-loop : tie.InvT-loop
+Inv-loop s b places prepared₀ i₀ prepared i = (i ≤ 16) × (length places ≡ 16) × (lookOf s places b ≡ seenFrom s b places i prepared)
+
+abbrev μ-loop : tie.MeasureT-loop
+μ-loop s b places prepared₀ i₀ prepared i = 16 - i
+
+loop-holds : tie.Need-loop-holds Inv-loop μ-loop
+loop-holds c = let a = c .args in (search needs, search needs, seen-all (a .s) (a .b) (a .t2))
+
+mul-l : tie.Need-mul-l Inv-loop μ-loop
+mul-l c = search needs
+
+array-copy-out-l : tie.Need-array-copy-out-l Inv-loop μ-loop
+array-copy-out-l c = search needs
+
+named-requires : tie.Need-named-requires Inv-loop μ-loop
+named-requires c κs = search needs
+
+returns : tie.Need-returns Inv-loop μ-loop
+returns c =
+    let b = c .before .before .before .before .before in
+    let a = b .before .args in
+    sym (b .loop .inv .2 ∙ seen-hit (a .s) (a .b) (a .t2) (b .loop .i) (b .loop .prepared) (search needs) (c .before .before .named .ensures) (c .if1 .taken))
+
+add-i : tie.Need-add-i Inv-loop μ-loop
+add-i c = search needs
+
+loop-less : tie.Need-loop-less Inv-loop μ-loop
+loop-less c = search needs
+
+loop-again : tie.Need-loop-again Inv-loop μ-loop
+loop-again c =
+    let b = c .before .before .before .before .before in
+    let a = b .before .args in
+    (search needs, search needs, b .loop .inv .2 ∙ seen-miss (a .s) (a .b) (a .t2) (b .loop .i) (b .loop .prepared) (search needs) (c .before .before .named .ensures) (c .if1 .left))
+
+returns-2 : tie.Need-returns-2 Inv-loop μ-loop
+returns-2 c =
+    let b = c .before .before in
+    let a = b .before .args in
+    sym (b .loop .inv .2 ∙ seen-none (a .s) (a .b) (a .t2) (b .loop .i) (b .loop .prepared) (search needs) ∙ rw (c .if2 .taken))
+
+returns-3 : tie.Need-returns-3 Inv-loop μ-loop
+returns-3 c =
+    let b = c .before .before in
+    let a = b .before .args in
+    sym (b .loop .inv .2 ∙ seen-none (a .s) (a .b) (a .t2) (b .loop .i) (b .loop .prepared) (search needs) ∙ rw (c .if2 .left))
+
+pub look-spec : {M : Type 1} → statement M
+look-spec =
+    tie.close
+    (tie.spec
+    Inv-loop
+    μ-loop
+    loop-holds
+    mul-l
+    array-copy-out-l
+    named-requires
+    returns
+    add-i
+    loop-less
+    loop-again
+    returns-2
+    returns-3)

@@ -1,0 +1,47 @@
+-- `Sights.sight-look` carries it: the window is added at the end.
+use mathlib.Core.Path.{sym, _∙_}
+use Rattle.rule.proofs.Sights.{sight-look, sight-nothing}
+use borrow.Author.Needs.{needs}
+use Rattle.rule.proofs.matching.sight_of.Statement.{statement}
+use Rattle.rule.proofs.matching.sight_of.Tie as tie
+
+look-requires : tie.Need-look-requires
+look-requires c κs = search needs
+
+enum-told : tie.Need-enum-told
+enum-told c = search needs
+
+enum-told-2 : tie.Need-enum-told-2
+enum-told-2 c = search needs
+
+if-open-requires : tie.Need-if-open-requires
+if-open-requires c κs = search needs
+
+enum-told-3 : tie.Need-enum-told-3
+enum-told-3 c = search needs
+
+if-open-requires-2 : tie.Need-if-open-requires-2
+if-open-requires-2 c κs = search needs
+
+returns : tie.Need-returns
+returns c = sym (sight-nothing _ _ _ (sym (c .before .before .look .ensures) ∙ c .enum-told .given .1))
+
+returns-2 : tie.Need-returns-2
+returns-2 c = rw (sight-look, ← c .before .before .before .look .ensures) (c .if-open .ensures)
+
+returns-3 : tie.Need-returns-3
+returns-3 c = rw (sight-look, ← c .before .before .before .look .ensures) (c .if-open2 .ensures)
+
+pub sight-of-spec : {M : Type 1} → statement M
+sight-of-spec =
+    tie.close
+    (tie.spec
+    look-requires
+    enum-told
+    enum-told-2
+    if-open-requires
+    enum-told-3
+    if-open-requires-2
+    returns
+    returns-2
+    returns-3)

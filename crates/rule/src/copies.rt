@@ -1,0 +1,153 @@
+// Moments: the copy's next state, by cases of its present one.
+ghost use mathlib.Core.Path.{_≡_};
+ghost use lib.ListN.{getD};
+ghost use Rattle.rule.specs.Rule.{noLabel, recordingAt, notLive, movesOr, fromRecording, fromRunningOn, held, nextCopy, nextTimer, isLive, sightOf, endedAt};
+use crate::Booking;
+use crate::Copy;
+use crate::Sight;
+use crate::Stamped;
+use crate::Timer;
+use crate::matching::ended_at;
+use crate::matching::matches;
+use crate::matching::sight_of;
+use crate::standing::no_label;
+
+// How long a copy runs on.
+const RUN_FOR: u64 = 30;
+
+// Past the last place there is no label.
+pub fn label_at(places: [Stamped; 16], p: usize) -> Stamped
+    ensures { λ r. ⌜ r ≡ getD places p noLabel ⌝ }
+{
+    if p < 16 {
+        return places[p];
+    }
+    no_label()
+}
+
+// 'It remembers the MI of the label there.'
+pub fn recording_at(places: [Stamped; 16], p: usize) -> Copy
+    ensures { λ r. ⌜ r ≡ recordingAt places p ⌝ }
+{
+    let l = label_at(places, p);
+    Copy::Recording { place: p, mi: l.mi }
+}
+
+fn not_live(places: [Stamped; 16], seen: Sight) -> Copy
+    ensures { λ r. ⌜ r ≡ notLive places seen ⌝ }
+{
+    match seen {
+        Sight::Nothing => Copy::Waiting,
+        Sight::Prepare => Copy::Prepared,
+        Sight::Start(q) => recording_at(places, q),
+    }
+}
+
+fn moves_or(places: [Stamped; 16], seen: Sight, next: Copy) -> Copy
+    ensures { λ r. ⌜ r ≡ movesOr places seen next ⌝ }
+{
+    match seen {
+        Sight::Nothing => next,
+        Sight::Prepare => next,
+        Sight::Start(q) => recording_at(places, q),
+    }
+}
+
+pub fn from_recording(s: u32, places: [Stamped; 16], b: Booking, p: usize, mi: bool) -> Copy
+    ensures { λ r. ⌜ r ≡ fromRecording s places b p mi ⌝ }
+{
+    let l = label_at(places, p);
+    let still = matches(s, b, l);
+    if still {
+        return recording_at(places, p);
+    }
+    let seen = sight_of(s, places, b);
+    if mi {
+        return not_live(places, seen);
+    }
+    moves_or(places, seen, Copy::RunningOn { place: p, since: s })
+}
+
+// 'It runs on while s - v < 30', in 64 bits.
+pub fn from_running_on(s: u32, places: [Stamped; 16], b: Booking, p: usize, v: u32) -> Copy
+    ensures { λ r. ⌜ r ≡ fromRunningOn s places b p v ⌝ }
+{
+    let seen = sight_of(s, places, b);
+    let on = (s as u64) < v as u64 + RUN_FOR;
+    if on {
+        return moves_or(places, seen, Copy::RunningOn { place: p, since: v });
+    }
+    not_live(places, seen)
+}
+
+// A copy that is not live sees nothing once its window has closed, so nothing asks here whether it has.
+fn from_not_live(s: u32, places: [Stamped; 16], b: Booking) -> Copy
+    ensures { λ r. ⌜ r ≡ notLive places (sightOf s places b) ⌝ }
+{
+    let seen = sight_of(s, places, b);
+    not_live(places, seen)
+}
+
+// 'A closed window comes before all of these: it ends a recording or run-on at once.'
+pub fn next_copy(s: u32, places: [Stamped; 16], b: Booking, c: Copy) -> Copy
+    ensures { λ r. ⌜ r ≡ nextCopy s places b c ⌝ }
+{
+    match c {
+        Copy::Free => Copy::Free,
+        Copy::Waiting => from_not_live(s, places, b),
+        Copy::Prepared => from_not_live(s, places, b),
+        Copy::Recording { place, mi } => {
+            let over = ended_at(s, b);
+            if over {
+                Copy::Waiting
+            } else {
+                from_recording(s, places, b, place, mi)
+            }
+        }
+        Copy::RunningOn { place, since } => {
+            let over = ended_at(s, b);
+            if over {
+                Copy::Waiting
+            } else {
+                from_running_on(s, places, b, place, since)
+            }
+        }
+    }
+}
+
+pub fn next_timer(s: u32, places: [Stamped; 16], t: Timer) -> Timer
+    ensures { λ r. ⌜ r ≡ nextTimer s places t ⌝ }
+{
+    let b = t.booking;
+    let c = t.copy;
+    let next = next_copy(s, places, b, c);
+    Timer {
+        booking: b,
+        copy: next,
+    }
+}
+
+// 'Live means recording or running on.'
+pub fn is_live(c: Copy) -> bool
+    ensures { λ r. ⌜ r ≡ isLive c ⌝ }
+{
+    match c {
+        Copy::Free => false,
+        Copy::Waiting => false,
+        Copy::Prepared => false,
+        Copy::Recording { place: _, mi: _ } => true,
+        Copy::RunningOn { place: _, since: _ } => true,
+    }
+}
+
+pub fn is_held(c: Copy) -> bool
+    ensures { λ r. ⌜ r ≡ held c ⌝ }
+{
+    match c {
+        Copy::Free => false,
+        Copy::Waiting => true,
+        Copy::Prepared => true,
+        Copy::Recording { place: _, mi: _ } => true,
+        Copy::RunningOn { place: _, since: _ } => true,
+    }
+}

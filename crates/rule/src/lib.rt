@@ -1,0 +1,42 @@
+// The second-by-second rule for one timer: what stands at the places, what matches, and how its copy goes on at a moment.
+pub mod copies; // how a copy goes on at a moment
+pub mod matching; // windows, matches, and what a timer sees
+pub mod standing; // what a place holds, and how long it stands
+
+// What a place last heard. A place that has heard nothing yet is the value with `heard` false.
+pub struct Stamped {
+    pub heard: bool,
+    pub stamp: u32,
+    pub cni: u16,
+    pub pil: u32,
+    pub prf: bool,
+    pub mi: bool,
+}
+
+// What a timer is.
+pub struct Booking {
+    pub cni: u16,
+    pub pil: u32,
+    pub year: u8,
+}
+
+// How a timer's copy stands. An ended timer is one whose window has closed, and is no state of its own.
+pub enum Copy {
+    Free,
+    Waiting,
+    Prepared,
+    Recording { place: usize, mi: bool },
+    RunningOn { place: usize, since: u32 },
+}
+
+pub struct Timer {
+    pub booking: Booking,
+    pub copy: Copy,
+}
+
+// What a timer that is not live goes by: the lowest match with PRF 0, failing that any match with PRF 1.
+pub enum Sight {
+    Nothing,
+    Prepare,
+    Start(usize),
+}

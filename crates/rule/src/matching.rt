@@ -1,0 +1,90 @@
+// Match: whose label stands where, and what a timer sees.
+ghost use mathlib.Core.Bool.{cond};
+ghost use mathlib.Core.Path.{_≡_};
+ghost use Rattle.rule.specs.Rule.{openAt, endedAt, matches, sightOf};
+ghost use Rattle.rule.specs.Look.{named, lookOf};
+use crate::Booking;
+use crate::Sight;
+use crate::Stamped;
+use crate::standing::stands;
+use calendar::Validity;
+
+pub fn open_at(s: u32, b: Booking) -> bool
+    ensures { λ r. ⌜ r ≡ openAt s b ⌝ }
+{
+    let validity = calendar::window_of(b.pil, b.year);
+    match validity {
+        Validity::Refused => false,
+        Validity::Given(w) => (w.opens <= s) & (s < w.closes),
+    }
+}
+
+// 'A window has ended when the clock has reached its close.'
+pub fn ended_at(s: u32, b: Booking) -> bool
+    ensures { λ r. ⌜ r ≡ endedAt s b ⌝ }
+{
+    let validity = calendar::window_of(b.pil, b.year);
+    match validity {
+        Validity::Refused => true,
+        Validity::Given(w) => w.closes <= s,
+    }
+}
+
+fn named(s: u32, b: Booking, l: Stamped) -> bool
+    ensures { λ r. ⌜ r ≡ named s b l ⌝ }
+{
+    let up = stands(l, s);
+    up & (l.cni == b.cni) & (l.pil == b.pil)
+}
+
+// The window is computed only where the label stands and is that of the programme.
+pub fn matches(s: u32, b: Booking, l: Stamped) -> bool
+    ensures { λ r. ⌜ r ≡ matches s b l ⌝ }
+{
+    let ours = named(s, b, l);
+    if ours {
+        return open_at(s, b);
+    }
+    false
+}
+
+// What the timer would see if its window were open: one look, which stops at the first label with PRF 0.
+fn look(s: u32, places: [Stamped; 16], b: Booking) -> Sight
+    ensures { λ r. ⌜ r ≡ lookOf s places b ⌝ }
+{
+    let mut prepared = false;
+    let mut i: usize = 0;
+    while i < 16 {
+        let l = places[i];
+        let ours = named(s, b, l);
+        if ours & !l.prf {
+            return Sight::Start(i);
+        }
+        prepared = prepared | ours;
+        i += 1;
+    }
+    if prepared {
+        Sight::Prepare
+    } else {
+        Sight::Nothing
+    }
+}
+
+fn if_open(s: u32, b: Booking, seen: Sight) -> Sight
+    ensures { λ r. ⌜ r ≡ cond (openAt s b) seen Sight.Nothing ⌝ }
+{
+    let open = open_at(s, b);
+    if open { seen } else { Sight::Nothing }
+}
+
+// The labels of a programme share its window, so it is computed once, and only where one of them stands.
+pub fn sight_of(s: u32, places: [Stamped; 16], b: Booking) -> Sight
+    ensures { λ r. ⌜ r ≡ sightOf s places b ⌝ }
+{
+    let seen = look(s, places, b);
+    match seen {
+        Sight::Nothing => Sight::Nothing,
+        Sight::Prepare => if_open(s, b, seen),
+        Sight::Start(_) => if_open(s, b, seen),
+    }
+}

@@ -1,0 +1,85 @@
+// Standing: what a place holds after a label, and for how long.
+ghost use mathlib.Core.Path.{_≡_};
+ghost use Rattle.rule.specs.Rule.{noLabel, stands, stamped, renewed, isContinuation, heardAt};
+use crate::Stamped;
+use label::Label;
+use label::pil::Service;
+
+// How long a label stands.
+const STAND_FOR: u64 = 5;
+
+pub fn no_label() -> Stamped
+    ensures { λ r. ⌜ r ≡ noLabel ⌝ }
+{
+    Stamped {
+        heard: false,
+        stamp: 0,
+        cni: 0,
+        pil: 0,
+        prf: false,
+        mi: false,
+    }
+}
+
+// The sum has 64 bits, so that a stamp near the end of its range does not wrap.
+pub fn stands(l: Stamped, s: u32) -> bool
+    ensures { λ r. ⌜ r ≡ stands s l ⌝ }
+{
+    let young = s as u64 <= l.stamp as u64 + STAND_FOR;
+    l.heard & young
+}
+
+fn stamped(t: u32, l: Label) -> Stamped
+    ensures { λ r. ⌜ r ≡ stamped t l ⌝ }
+{
+    Stamped {
+        heard: true,
+        stamp: t,
+        cni: l.cni,
+        pil: l.pil,
+        prf: l.prf != 0,
+        mi: l.mi != 0,
+    }
+}
+
+fn renewed(t: u32, old: Stamped) -> Stamped
+    ensures { λ r. ⌜ r ≡ renewed t old ⌝ }
+{
+    let up = stands(old, t);
+    if up {
+        return Stamped {
+            heard: old.heard,
+            stamp: t,
+            cni: old.cni,
+            pil: old.pil,
+            prf: old.prf,
+            mi: old.mi,
+        };
+    }
+    old
+}
+
+fn is_continuation(service: Service) -> bool
+    ensures { λ r. ⌜ r ≡ isContinuation service ⌝ }
+{
+    match service {
+        Service::Programme => false,
+        Service::TimerControl => false,
+        Service::InhibitTerminate => false,
+        Service::Interruption => false,
+        Service::Continuation => true,
+        Service::NoSpecificValue => false,
+    }
+}
+
+// 'A continuation code puts no label'; 'other service codes and no-specific-value stand as labels'.
+pub fn heard_at(t: u32, l: Label, old: Stamped) -> Stamped
+    ensures { λ r. ⌜ r ≡ heardAt t l old ⌝ }
+{
+    let service = label::pil::service_of(l.pil);
+    let continued = is_continuation(service);
+    if continued {
+        return renewed(t, old);
+    }
+    stamped(t, l)
+}
