@@ -8,9 +8,10 @@ use lib.Dec.{ltb}
 use Rattle.hamming.specs.Answer.{refused, given, firstOf, number}
 use Rattle.calendar.specs.Calendar.{clockEnd}
 use Rattle.label.specs.Packet.{refusalNumber}
+use Rattle.label.specs.declared.Label.{Label}
 use Rattle.label.specs.declared.Refusal.{Refusal}
 use Rattle.label.specs.declared.Refusal.the-variants.{Length, AddressDamaged, OtherPacket, DesignationDamaged, OtherDesignation, LabelDamaged}
-use Rattle.desk.specs.Calls.{tunerRows}
+use Rattle.desk.specs.Calls.{tunerRows, labelRows, hearingAt, hearing}
 use Rattle.desk.specs.Numbers.{packetRefusal, packetNumber}
 use Rattle.desk.specs.declared.Desk.{Desk}
 use Rattle.desk.specs.declared.PacketRefusal.{PacketRefusal}
@@ -51,3 +52,9 @@ module _ {A B : Type 0} (a : A) (b : B) where
 
     pub gate-open : p ≡ PacketAnswer.Done → firstOf (tunerRows d tuner t) b ≡ given b
     gate-open q = open-by (ltb 3 tuner) (ltb t (d .clock)) (ltb clockEnd t) (sym (ap packetNumber q) ∙ e)
+
+-- past the gate a label is heard by its own row
+pub hearing-open : (tuner t : ℕ) (l : Label) (d : Desk) → firstOf (tunerRows d tuner t) l ≡ given l →
+    hearing tuner t l d ≡ firstOf (labelRows l) (hearingAt tuner t l d)
+unfolding hearing
+hearing-open tuner t l d e = rw e

@@ -118,7 +118,7 @@ impl Desk {
                 let reading = label::reader::read(bytes);
                 match reading {
                     Reading::Refused(r) => self.refuse(PacketRefusal::Unread(r)),
-                    Reading::Read(l) => self.obey(tuner, time, l),
+                    Reading::Read(l) => self.hear(tuner, time, l),
                 }
             }
         }

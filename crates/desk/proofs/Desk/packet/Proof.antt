@@ -1,7 +1,7 @@
 -- `Gate` carries it: what `barred` answers is the first of 8, 9 and 10 that applies; the reader's refusals and the label follow.
 use mathlib.Core.Path.{refl}
 use Rattle.desk.specs.Calls.{packetOf}
-use Rattle.desk.proofs.Gate.{gate-shut, gate-open}
+use Rattle.desk.proofs.Gate.{gate-shut, gate-open, hearing-open}
 use borrow.Author.Needs.{needs}
 use Rattle.desk.proofs.Desk.packet.Statement.{statement}
 use Rattle.desk.proofs.Desk.packet.Tie as tie
@@ -30,8 +30,8 @@ refuse-requires-2 c κs = search needs
 enum-known-reading-2 : tie.Need-enum-known-reading-2
 enum-known-reading-2 c = search needs
 
-obey-requires : tie.Need-obey-requires
-obey-requires c κs = search needs
+hear-requires : tie.Need-hear-requires
+hear-requires c κs = search needs
 
 returns : tie.Need-returns
 unfolding packetOf
@@ -64,12 +64,14 @@ returns-3 c =
     let o = r .before in
     let b = o .before .before in
     let a = b .before .before .args in
+    let l = c .before .before .reading2 .given .0 .0 in
+    let e = gate-open (a .self) l (a .self) (a .tuner) (a .time) (b .barred .ensures) (o .enum-told .given .1) in
     rw (
       gate-open (a .self) (a .bytes .now) (a .self) (a .tuner) (a .time) (b .barred .ensures) (o .enum-told .given .1),
       ← r .read .ensures,
       c .before .before .reading2 .given .1,
     )
-    (c .obey .ensures)
+    (rw (hearing-open (a .tuner) (a .time) l (a .self) e) at (c .hear .ensures))
 
 pub packet-spec : {M : Type 1} → statement M
 packet-spec =
@@ -83,7 +85,7 @@ packet-spec =
     enum-known-reading
     refuse-requires-2
     enum-known-reading-2
-    obey-requires
+    hear-requires
     returns
     returns-2
     returns-3)
