@@ -7,7 +7,7 @@ use native.Mathlib.Nat.{div-add-mod', div-div-eq-div-mul, mod-eq-of-lt}
 use borrow.Author.Tests.{eqb-true, ltb-true, ne-eqb}
 use lib.Dec.{eqb}
 use Rattle.hamming.specs.Answer.{Answer, refused, given, after, number, Unique}
-use Rattle.hamming.proofs.Answers.{equation, numbered}
+use Rattle.hamming.proofs.Answers.{equation, numbered, paired}
 use Rattle.label.specs.declared.Label.{Label}
 use Rattle.label.specs.declared.Refusal.{Refusal}
 use Rattle.label.specs.declared.Refusal.the-variants.{Length, AddressDamaged, OtherPacket, DesignationDamaged, OtherDesignation, LabelDamaged}
@@ -85,9 +85,6 @@ outcome-back : (w : Written) → outcome (writtenNumber w) ≡ w
 outcome-back WrongLength = refl
 outcome-back TooWide = refl
 outcome-back Done = refl
-
-paired : {A B : Type 0} (P : A → Type 0) (Q : B → Type 0) → Unique P → Unique Q → Unique {A = A × B} (λ o. P (o .0) × Q (o .1))
-paired P Q u v r s p q = λ i. (u (r .0) (s .0) (p .0) (q .0) i, v (r .1) (s .1) (p .1) (q .1) i)
 
 pub laws : Laws
 laws = record {

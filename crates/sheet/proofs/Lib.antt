@@ -1,0 +1,7 @@
+pub mod Texts
+pub mod Rooms
+pub mod Numbers
+pub mod Feeding
+pub mod Machine
+pub mod Small
+pub mod Proved

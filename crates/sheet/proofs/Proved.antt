@@ -1,0 +1,24 @@
+-- The laws of a sheet.
+use mathlib.Core.Path.{_≡_}
+use native.Mathlib.Omega.{arith}
+use Rattle.hamming.proofs.Answers.{equation, paired}
+use Rattle.sheet.specs.Laws.{Laws}
+use Rattle.sheet.specs.Pieces.{blank, fedBy, outAfter, closedBy, outClosed}
+use Rattle.sheet.proofs.Machine.{pieces}
+use Rattle.sheet.proofs.Small.{slot-inside, small-refusal, small-answer, live-inside, timers-kept}
+
+pub laws : Laws
+laws = record {
+  pieces = pieces;
+  small-slot = λ b d t l e. omega (arith, slot-inside b d t e);
+  small-refusal = small-refusal;
+  small-answer = small-answer;
+  small-count = λ d l. omega (arith, live-inside d);
+  timers-kept = timers-kept;
+  new-unique = equation blank;
+  feed-unique =
+      λ s piece out at.
+      paired (λ r. r ≡ fedBy piece out at s) (λ q. q ≡ outAfter piece out at s) (equation (fedBy piece out at s)) (equation (outAfter piece out at s));
+  close-unique =
+      λ s out at. paired (λ r. r ≡ closedBy out at s) (λ q. q ≡ outClosed out at s) (equation (closedBy out at s)) (equation (outClosed out at s));
+}

@@ -1,0 +1,174 @@
+-- No number that a sheet prints is above 16.
+use Prim.Native.Nat.{ℕ, zero, suc, _+_, _-_, _≤_, _<_}
+use mathlib.Core.Path.{_≡_, refl, _∙_}
+use mathlib.Core.Bool.{Bool, true, false, cond, not, _||_, true≢false}
+use mathlib.Core.List.{List, [], _∷_}
+use native.Mathlib.Omega.{arith}
+use lib.Dec.{ltb}
+use lib.ListN.{length, take, drop, getD, length-map, length-set}
+use Rattle.hamming.specs.Answer.{Answer, refused, given, Row, firstOf, andThen, number, after}
+use Rattle.label.specs.declared.Label.{Label}
+use Rattle.label.specs.Packet.{readerRows, readingOf, labelIn}
+use Rattle.label.specs.Pil.{twentyBits}
+use Rattle.calendar.specs.Calendar.{realIn, windowAt, windowIn}
+use Rattle.calendar.specs.declared.Window.{Window}
+use Rattle.rule.specs.Rule.{Found, nowhere, at, lowestFrom, nextTimer, liveTimer}
+use Rattle.rule.specs.declared.Booking.{Booking}
+use Rattle.rule.specs.declared.Copy.the-variants.{Waiting}
+use Rattle.rule.specs.declared.Timer.{Timer}
+use Rattle.desk.specs.declared.Desk.{Desk}
+use Rattle.desk.specs.Calls.{Told, tunerRows, labelRows, hearingAt, packetOf, roomIn, isNowhere, slotOf, withLabel, withTimer, addRows, addOf}
+use Rattle.desk.specs.Moments.{moment, clockedAt, nextSecond, walk, passTo, count, liveCount}
+use Rattle.desk.specs.Numbers.{leftBy}
+use Rattle.sheet.specs.Sheet.{numberOf, bookingIn, timerLeft, packetLeft}
+
+-- ── the first row that applies ─────────────────────────────────────────────────────────────────────────────────────
+abbrev Each : (Row → Type 0) → List Row → Type 0
+Each P [] = Unit {0}
+Each P (row ∷ rows) = P row × Each P rows
+
+-- what holds of each row's refusal, and where no row applies of what is given, holds of the answer
+first-holds : {A : Type 0} (P : Answer A → Type 0) (a : A) (rows : List Row) →
+    Each (λ row. P (refused (row .1))) rows → (Each (λ row. row .0 ≡ false) rows → P (given a)) → P (firstOf rows a)
+first-holds P a [] h g = g tt
+first-holds P a (row ∷ rows) h g = go (row .0) refl (λ e. first-holds P a rows (h .1) (λ none. g (e, none)))
+  where
+    go : (b : Bool) → row .0 ≡ b → (row .0 ≡ false → P (firstOf rows a)) → P (cond b (refused (row .1)) (firstOf rows a))
+    go true e next = h .0
+    go false e next = next e
+
+-- ── slots ──────────────────────────────────────────────────────────────────────────────────────────────────────────
+-- what is found is in the list
+abbrev Below : ℕ → Found → Type 0
+Below n nowhere = Unit {0}
+Below n (at q) = q < n
+
+found-below : {A : Type 0} (f : A → Bool) (i n : ℕ) (xs : List A) → i + length xs ≡ n → Below n (lowestFrom f i xs)
+found-below f i n [] e = tt
+found-below f i n (x ∷ xs) e = go (f x) (found-below f (suc i) n xs (omega arith))
+  where
+    go : (b : Bool) → Below n (lowestFrom f (suc i) xs) → Below n (cond b (at i) (lowestFrom f (suc i) xs))
+    go true h = omega arith
+    go false h = h
+
+slot-below : (r : Found) (n : ℕ) → Below n r → isNowhere r ≡ false → slotOf r < n
+slot-below nowhere n h e = absurd (true≢false e)
+slot-below (at q) n h e = h
+
+-- a slot, if one is told, is below n
+abbrev Slot : ℕ → Answer Told → Type 0
+Slot n (refused k) = Unit {0}
+Slot n (given t) = t .says < n
+
+add-slot : (b : Booking) (d : Desk) → Slot (length (d .timers)) (addOf b d)
+unfolding addOf roomIn
+add-slot b d = go (windowIn (b .pil) (b .year)) _ refl
+  where
+    n : ℕ
+    n = length (d .timers)
+
+    go : (w : Answer Window) (a : Told) → a .says ≡ slotOf (roomIn d) → Slot n (andThen w (λ v. firstOf (addRows b d v) a))
+    go (refused k) a e = tt
+    go (given w) a e =
+        first-holds (Slot n) a (addRows b d w) (tt, (tt, (tt, tt)))
+        (λ none. rw e (slot-below (roomIn d) n (found-below _ 0 n (d .timers) (omega arith)) (none .1 .1 .0)))
+
+-- a slot that is told is one of the desk's
+pub slot-inside : (b : Booking) (d : Desk) (t : Told) → addOf b d ≡ given t → t .says < length (d .timers)
+slot-inside b d t e = rw e at (add-slot b d)
+
+-- ── refusals of a timer ────────────────────────────────────────────────────────────────────────────────────────────
+pub small-refusal : (b : Booking) (d : Desk) → number (addOf b d) ≤ 16
+unfolding addOf windowIn
+small-refusal b d =
+    first-holds (λ x. number (andThen x booked) ≤ 16) (windowAt (b .pil) (b .year))
+    ((ltb 99 (b .year) || not (twentyBits (b .pil)) || not (realIn (b .pil) (b .year)), 11) ∷ []) (omega arith) (λ none. small-booked (windowAt (b .pil) (b .year)))
+  where
+    booked : Window → Answer Told
+    booked w =
+        firstOf (addRows b d w) (record {
+          says = slotOf (roomIn d);
+          desk = moment (withTimer (slotOf (roomIn d)) (record { booking = b; copy = Waiting }) d);
+        })
+
+    small-booked : (w : Window) → number (booked w) ≤ 16
+    small-booked w = first-holds (λ x. number x ≤ 16) _ (addRows b d w) (omega arith) (omega arith)
+
+-- ── answers ────────────────────────────────────────────────────────────────────────────────────────────────────────
+pub small-answer : (tuner t : ℕ) (bytes : List ℕ) (d : Desk) → number (packetOf tuner t bytes d) ≤ 16
+unfolding packetOf readingOf
+small-answer tuner t bytes d =
+    first-holds (λ x. number (andThen x (λ p. andThen (readingOf p) heard)) ≤ 16) bytes (tunerRows d tuner t) (omega arith) (λ none. small-read)
+  where
+    heard : Label → Answer Desk
+    heard l = firstOf (labelRows l) (hearingAt tuner t l d)
+
+    small-heard : (l : Label) → number (heard l) ≤ 16
+    small-heard l = first-holds (λ x. number x ≤ 16) (hearingAt tuner t l d) (labelRows l) (omega arith) (omega arith)
+
+    small-read : number (andThen (readingOf bytes) heard) ≤ 16
+    small-read =
+        first-holds (λ x. number (andThen x heard) ≤ 16) (labelIn bytes) (readerRows bytes) (omega arith) (λ none. small-heard (labelIn bytes))
+
+-- ── counts ─────────────────────────────────────────────────────────────────────────────────────────────────────────
+count-length : {A : Type 0} (f : A → Bool) (xs : List A) → count f xs ≤ length xs
+count-length f [] = omega arith
+count-length f (x ∷ xs) = go (f x) (count-length f xs)
+  where
+    go : (b : Bool) → count f xs ≤ length xs → cond b 1 0 + count f xs ≤ suc (length xs)
+    go true h = omega arith
+    go false h = omega arith
+
+pub live-inside : (d : Desk) → liveCount d ≤ length (d .timers)
+unfolding liveCount
+live-inside d = count-length liveTimer (d .timers)
+
+-- ── the desk keeps its sixteen timers ──────────────────────────────────────────────────────────────────────────────
+moment-kept : (d : Desk) → length (moment d .timers) ≡ length (d .timers)
+unfolding moment
+moment-kept d = length-map (d .timers) (nextTimer (d .clock) (d .places))
+
+walk-kept : (n : ℕ) (d : Desk) → length (walk n d .timers) ≡ length (d .timers)
+unfolding walk nextSecond
+walk-kept zero d = refl
+walk-kept (suc n) d = walk-kept n (nextSecond d) ∙ moment-kept (clockedAt (suc (d .clock)) d)
+
+-- an answer's desk has as many timers as the desk before
+abbrev Told-kept : Desk → Answer Told → Type 0
+Told-kept d a = length (leftBy d a .timers) ≡ length (d .timers)
+
+abbrev Desk-kept : Desk → Answer Desk → Type 0
+Desk-kept d a = length (after d a .timers) ≡ length (d .timers)
+
+add-kept : (b : Booking) (d : Desk) → Told-kept d (addOf b d)
+unfolding addOf
+add-kept b d = go (windowIn (b .pil) (b .year))
+  where
+    t : Timer
+    t = record { booking = b; copy = Waiting }
+
+    go : (w : Answer Window) →
+        Told-kept d (andThen w (λ v. firstOf (addRows b d v) (record { says = slotOf (roomIn d); desk = moment (withTimer (slotOf (roomIn d)) t d) })))
+    go (refused k) = refl
+    go (given w) =
+        first-holds (Told-kept d) _ (addRows b d w) (refl, (refl, (refl, tt)))
+        (λ none. moment-kept (withTimer (slotOf (roomIn d)) t d) ∙ length-set (d .timers) (slotOf (roomIn d)) t)
+
+packet-kept : (tuner s : ℕ) (bytes : List ℕ) (d : Desk) → Desk-kept d (packetOf tuner s bytes d)
+unfolding packetOf hearingAt passTo
+packet-kept tuner s bytes d =
+    first-holds (λ x. Desk-kept d (andThen x (λ p. andThen (readingOf p) heard))) bytes (tunerRows d tuner s) (refl, (refl, (refl, tt)))
+    (λ none. read (readingOf bytes))
+  where
+    heard : Label → Answer Desk
+    heard l = firstOf (labelRows l) (hearingAt tuner s l d)
+
+    read : (a : Answer Label) → Desk-kept d (andThen a heard)
+    read (refused k) = refl
+    read (given l) =
+        first-holds (Desk-kept d) _ (labelRows l) (refl, tt)
+        (λ none. moment-kept (withLabel tuner l (passTo s d)) ∙ walk-kept (s - d .clock) d)
+
+pub timers-kept : (item : List ℕ) (d : Desk) → (length (timerLeft item d .timers) ≡ length (d .timers)) × (length (packetLeft item d .timers) ≡ length (d .timers))
+unfolding timerLeft packetLeft
+timers-kept item d = (add-kept (bookingIn item) d, packet-kept (getD item 4 0) (numberOf (take 4 item)) (drop 5 item) d)

@@ -1,0 +1,42 @@
+-- What is claimed of a sheet. Proved in proofs/Proved.antt.
+use Prim.Native.Nat.{ℕ, _+_, _≤_, _<_}
+use mathlib.Core.Path.{_≡_}
+use mathlib.Core.Bool.{true, false}
+use mathlib.Core.List.{List, [], _∷_, _++_}
+use lib.ListN.{length}
+use Rattle.hamming.specs.Answer.{Unique, number, given}
+use Rattle.rule.specs.declared.Booking.{Booking}
+use Rattle.desk.specs.declared.Desk.{Desk}
+use Rattle.desk.specs.Calls.{Told, packetOf, addOf}
+use Rattle.desk.specs.Moments.{liveCount}
+use Rattle.sheet.specs.declared.Sheet.{Sheet}
+use Rattle.sheet.specs.declared.Fed.{Fed}
+use Rattle.sheet.specs.declared.Closed.{Closed}
+use Rattle.sheet.specs.Sheet.{timerLeft, packetLeft, sheetOf}
+use Rattle.sheet.specs.Pieces.{blank, afterPiece, pieceTold, endTold, fedBy, outAfter, closedBy, outClosed}
+
+-- pieces of input, put together
+abbrev pub joined : List (List ℕ) → List ℕ
+joined [] = []
+joined (p ∷ ps) = p ++ joined ps
+
+-- what pieces print one after the other, from a sheet on, and then the input's end
+abbrev pub printed : List (List ℕ) → Sheet → List ℕ
+printed [] s = endTold s
+printed (p ∷ ps) s = pieceTold p s ++ printed ps (afterPiece p s)
+
+pub record Laws : Type 0 where
+  -- however the input arrives in pieces, what is printed is the one definition's
+  pub pieces : (ps : List (List ℕ)) → printed ps blank ≡ sheetOf (joined ps)
+  -- no number that a sheet prints is above 16: slots, refusals, answers, and the live timers of sixteen
+  pub small-slot : (b : Booking) (d : Desk) (t : Told) → length (d .timers) ≡ 16 → addOf b d ≡ given t → t .says < 16
+  pub small-refusal : (b : Booking) (d : Desk) → number (addOf b d) ≤ 16
+  pub small-answer : (tuner t : ℕ) (bytes : List ℕ) (d : Desk) → number (packetOf tuner t bytes d) ≤ 16
+  pub small-count : (d : Desk) → length (d .timers) ≡ 16 → liveCount d ≤ 16
+  pub timers-kept : (item : List ℕ) (d : Desk) → (length (timerLeft item d .timers) ≡ length (d .timers)) × (length (packetLeft item d .timers) ≡ length (d .timers))
+  -- each call's promise allows one outcome
+  pub new-unique : Unique (λ (r : Sheet). r ≡ blank)
+  pub feed-unique : (s : Sheet) (piece out : List ℕ) (at : ℕ) →
+      Unique {A = Fed × List ℕ} (λ o. (o .0 ≡ fedBy piece out at s) × (o .1 ≡ outAfter piece out at s))
+  pub close-unique : (s : Sheet) (out : List ℕ) (at : ℕ) →
+      Unique {A = Closed × List ℕ} (λ o. (o .0 ≡ closedBy out at s) × (o .1 ≡ outClosed out at s))

@@ -1,0 +1,102 @@
+// The lines that a sheet prints. Each writer stores its text from place at on, and answers the place after it.
+ghost use Prim.Native.Nat.{_+_, _<_, _≤_};
+ghost use mathlib.Core.Path.{_≡_};
+ghost use mathlib.Core.List.{_∷_, [], _++_};
+ghost use lib.ListN.{length};
+ghost use lib.Seq.{sets};
+ghost use Rattle.desk.specs.Numbers.{addAnswer};
+ghost use Rattle.sheet.specs.Sheet.{digit, decimal, space, lineFeed, timerLine, packetLine};
+ghost use Rattle.sheet.specs.Pieces.{longest};
+use desk::AddAnswer;
+
+fn put(out: &mut [u8], at: usize, b: u8) -> usize
+    requires { ⌜ at < length (now out) ⌝ }
+    ensures { λ r. ⌜ (r ≡ at + length (b ∷ [])) × (now (out .exit) ≡ sets (now (out .entry)) at (b ∷ [])) ⌝ }
+{
+    out[at] = b;
+    at + 1
+}
+
+fn digit(n: usize) -> u8
+    ensures { λ r. ⌜ r ≡ digit n ⌝ }
+{
+    (48 + n % 10) as u8
+}
+
+fn put_decimal(out: &mut [u8], at: usize, n: usize) -> usize
+    requires { ⌜ at + 2 ≤ length (now out) ⌝ }
+    ensures { λ r. ⌜ (r ≡ at + length (decimal n)) × (now (out .exit) ≡ sets (now (out .entry)) at (decimal n)) ⌝ }
+{
+    if n < 10 {
+        return put(out, at, digit(n));
+    }
+    let next = put(out, at, digit(n / 10));
+    put(out, next, digit(n))
+}
+
+// A line's letter and the space after it.
+fn open_line(out: &mut [u8], at: usize, letter: u8) -> usize
+    requires { ⌜ at + 2 ≤ length (now out) ⌝ }
+    ensures { λ r. ⌜ (r ≡ at + length (letter ∷ space ∷ []))
+        × (now (out .exit) ≡ sets (now (out .entry)) at (letter ∷ space ∷ [])) ⌝ }
+{
+    let next = put(out, at, letter);
+    put(out, next, b' ')
+}
+
+// A line's last number, and its end.
+fn end_line(out: &mut [u8], at: usize, n: usize) -> usize
+    requires { ⌜ at + 3 ≤ length (now out) ⌝ }
+    ensures { λ r. ⌜ (r ≡ at + length (decimal n ++ (lineFeed ∷ [])))
+        × (now (out .exit) ≡ sets (now (out .entry)) at (decimal n ++ (lineFeed ∷ []))) ⌝ }
+{
+    let next = put_decimal(out, at, n);
+    put(out, next, b'\n')
+}
+
+fn refusal(out: &mut [u8], at: usize, n: usize) -> usize
+    requires { ⌜ at + 4 ≤ length (now out) ⌝ }
+    ensures { λ r. ⌜ (r ≡ at + length (33 ∷ decimal n ++ (lineFeed ∷ [])))
+        × (now (out .exit) ≡ sets (now (out .entry)) at (33 ∷ decimal n ++ (lineFeed ∷ []))) ⌝ }
+{
+    let next = put(out, at, b'!');
+    end_line(out, next, n)
+}
+
+// '`T slot` or `T !number` per timer.'
+pub(crate) fn timer_line(out: &mut [u8], at: usize, a: AddAnswer) -> usize
+    requires { ⌜ at + longest ≤ length (now out) ⌝ }
+    ensures { λ r. ⌜ (r ≡ at + length (timerLine (addAnswer a)))
+        × (now (out .exit) ≡ sets (now (out .entry)) at (timerLine (addAnswer a))) ⌝ }
+{
+    let next = open_line(out, at, b'T');
+    match a {
+        AddAnswer::NotReal => refusal(out, next, 11),
+        AddAnswer::Ended => refusal(out, next, 12),
+        AddAnswer::Held => refusal(out, next, 13),
+        AddAnswer::Full => refusal(out, next, 14),
+        AddAnswer::Slot(i) => end_line(out, next, i),
+    }
+}
+
+// '`P answer live` per packet.'
+pub(crate) fn packet_line(out: &mut [u8], at: usize, answer: u32, live: u32) -> usize
+    requires { ⌜ at + longest ≤ length (now out) ⌝ }
+    ensures { λ r. ⌜ (r ≡ at + length (packetLine answer live))
+        × (now (out .exit) ≡ sets (now (out .entry)) at (packetLine answer live)) ⌝ }
+{
+    let number = open_line(out, at, b'P');
+    let gap = put_decimal(out, number, answer as usize);
+    let next = put(out, gap, b' ');
+    end_line(out, next, live as usize)
+}
+
+// 'Then `Z live`', or `X live` in its place.
+pub(crate) fn last_line(out: &mut [u8], at: usize, letter: u8, live: u32) -> usize
+    requires { ⌜ at + longest ≤ length (now out) ⌝ }
+    ensures { λ r. ⌜ (r ≡ at + length (letter ∷ space ∷ decimal live ++ (lineFeed ∷ [])))
+        × (now (out .exit) ≡ sets (now (out .entry)) at (letter ∷ space ∷ decimal live ++ (lineFeed ∷ []))) ⌝ }
+{
+    let next = open_line(out, at, letter);
+    end_line(out, next, live as usize)
+}
