@@ -7,6 +7,7 @@ extern "C" {
     fn probe_read(bytes: *const u8, length: usize, out: *mut u8, room: usize) -> u8;
     fn probe_write(fields: *const u8, count: usize, buf: *mut u8, length: usize) -> u8;
     fn probe_service(pil: u32) -> u8;
+    fn probe_window(pil: u32, year: u8) -> u64;
 }
 
 /// The value of a byte, or none.
@@ -51,4 +52,15 @@ pub fn write_fields(fields: &[u8], buf: &mut [u8]) -> u8 {
 /// 0 programme, 1 timer-control, 2 RI/T, 3 interruption, 4 continuation, 5 no specific value.
 pub fn service(pil: u32) -> u8 {
     unsafe { probe_service(pil) }
+}
+
+/// When the window of a PIL in a year opens and closes, or the number of the refusal. One number holds both seconds, and every
+/// close lies far above a refusal.
+pub fn window(pil: u32, year: u8) -> Result<(u32, u32), u8> {
+    let r = unsafe { probe_window(pil, year) };
+    if r < 256 {
+        Err(r as u8)
+    } else {
+        Ok(((r >> 32) as u32, r as u32))
+    }
 }

@@ -20,6 +20,8 @@ struct ProgramId {
 extern "C" {
     static _vbi_hamm8_inv: [i8; 256];
     fn vbi_decode_teletext_8302_pdc(pid: *mut ProgramId, buffer: *const u8) -> c_int;
+    // time_t is 64 bits wide on every system that the tests run on
+    fn vbi_pil_lto_validity_window(begin: *mut i64, end: *mut i64, pil: c_uint, start: i64, seconds_east: c_int) -> c_int;
 }
 
 /// `vbi_unham8`, which is this look into a table.
@@ -56,4 +58,11 @@ pub fn read(packet: &[u8; 42]) -> Option<Pid> {
         pil: p.pil,
         pty: p.pty as u8,
     })
+}
+
+/// What libzvbi gives as the window of a PIL near a time, all as Unix time in UTC; none where it refuses.
+pub fn window(pil: u32, near: i64) -> Option<(i64, i64)> {
+    let (mut begin, mut end) = (0, 0);
+    let given = unsafe { vbi_pil_lto_validity_window(&mut begin, &mut end, pil, near, 0) };
+    (given != 0).then_some((begin, end))
 }

@@ -1,0 +1,105 @@
+//! The ordinary desk beside the independent one, which walks every second: on random sheets and on random rows of calls.
+#[allow(dead_code)]
+#[path = "../../tests/src"]
+mod shared {
+    // the same names as in the package of tests, which the files use
+    pub mod calendar;
+    pub mod calls;
+    pub mod desk;
+    pub mod faults;
+    pub mod paper;
+    pub mod random;
+    pub mod scenes;
+    pub mod sheet;
+    pub mod sheets;
+}
+use shared::{calendar, calls, desk, faults, paper, random, scenes, sheet, sheets};
+
+struct Ordinary(bench::desk::Desk);
+
+impl calls::Machine for Ordinary {
+    fn packet(&mut self, time: u32, tuner: u8, bytes: &[u8]) -> u8 {
+        self.0.packet(time, tuner, bytes)
+    }
+    fn wait(&mut self, time: u32) -> Result<u32, u8> {
+        self.0.wait(time)
+    }
+    fn add(&mut self, cni: u16, pil: u32, year: u8) -> Result<u8, u8> {
+        self.0.add(cni, pil, year)
+    }
+    fn cancel(&mut self, slot: u8) -> u8 {
+        self.0.cancel(slot)
+    }
+    fn ask(&self, slot: u8) -> Result<calls::State, u8> {
+        use bench::desk::State;
+        self.0.ask(slot).map(|state| match state {
+            State::Waiting => calls::State::Waiting,
+            State::Prepared => calls::State::Prepared,
+            State::Recording(place) => calls::State::Recording(place),
+            State::RunningOn(place) => calls::State::RunningOn(place),
+            State::Ended => calls::State::Ended,
+        })
+    }
+    fn live(&self) -> u8 {
+        self.0.live()
+    }
+}
+
+#[test]
+fn sheets_print_the_same() {
+    for seed in 0..sheets::SHEETS {
+        let bytes = sheets::sheet(seed);
+        let printed = String::from_utf8(bench::sheet::play(&bytes)).unwrap();
+        assert_eq!(printed, sheet::play(&bytes), "sheet {seed}");
+    }
+    let largest = sheets::largest(1);
+    assert!(bench::sheet::play(&largest) == sheet::play(&largest).into_bytes());
+}
+
+#[test]
+fn calls_answer_the_same() {
+    for seed in 0..sheets::SHEETS {
+        let calls = calls::calls(seed);
+        let answers = calls::play(&mut Ordinary(bench::desk::Desk::new()), &calls);
+        let expected = calls::play(&mut desk::Desk::new(), &calls);
+        let line = answers.lines().zip(expected.lines()).take_while(|(a, b)| a == b).count();
+        assert!(
+            answers == expected,
+            "row {seed}, call {line}, {:?}: {:?} in place of {:?}",
+            calls.get(line),
+            answers.lines().nth(line),
+            expected.lines().nth(line)
+        );
+    }
+}
+
+#[test]
+fn windows_are_the_same() {
+    for year in [0, 1, 2, 99, 100] {
+        for pil in 0..1 << 20 {
+            let own = bench::calendar::window(pil, year).map(|w| (w.opens, w.closes));
+            assert_eq!(own, calendar::window(pil, year).ok(), "PIL {pil:05X} in year {year}");
+        }
+    }
+}
+
+#[test]
+fn packets_read_the_same() {
+    let mut r = random::Random::new(30);
+    for _ in 0..100_000 {
+        let p = r.packet();
+        let expected = paper::read(&p).and_then(|label| {
+            if label.luf == 1 {
+                return Err(7);
+            }
+            Ok(bench::packet::Label {
+                lci: label.lci,
+                prf: label.prf == 1,
+                mi: label.mi == 1,
+                cni: label.cni,
+                pil: label.pil,
+            })
+        });
+        assert_eq!(bench::packet::read(&p), expected, "{p:02X?}");
+    }
+}

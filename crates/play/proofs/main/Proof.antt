@@ -1,0 +1,85 @@
+-- `main`'s loop: at each turn the buffer has room for what a whole piece prints. The measure is the number of turns that are left.
+use borrow.Author.Needs.{needs}
+use Prim.Native.Nat.{_*_, _≤_}
+use mathlib.Core.Path.{_≡_}
+use lib.ListN.{length}
+use Rattle.sheet.specs.Pieces.{longest}
+use Rattle.play.proofs.main.Statement.{statement}
+use Rattle.play.proofs.main.Tie as tie
+
+abbrev Inv-loop : tie.InvT-loop
+Inv-loop out₀ sheet₀ at₀ turns₀ out sheet at turns = (length out ≡ 65536) × (at ≤ longest * 4096)
+
+abbrev μ-loop : tie.MeasureT-loop
+μ-loop out₀ sheet₀ at₀ turns₀ out sheet at turns = turns
+
+large-buffer-requires : tie.Need-large-buffer-requires Inv-loop μ-loop
+large-buffer-requires c κs = search needs
+
+new-requires : tie.Need-new-requires Inv-loop μ-loop
+new-requires c κs = search needs
+
+loop-holds : tie.Need-loop-holds Inv-loop μ-loop
+loop-holds c = search needs
+
+slice-aggregate-play-piece : tie.Need-slice-aggregate-play-piece Inv-loop μ-loop
+slice-aggregate-play-piece c = search needs
+
+play-piece-requires : tie.Need-play-piece-requires Inv-loop μ-loop
+play-piece-requires c κs = search needs
+
+slice-aggregate-flush : tie.Need-slice-aggregate-flush Inv-loop μ-loop
+slice-aggregate-flush c = search needs
+
+flush-requires : tie.Need-flush-requires Inv-loop μ-loop
+flush-requires c κs = search needs
+
+returns : tie.Need-returns Inv-loop μ-loop
+returns c = search needs
+
+left-requires : tie.Need-left-requires Inv-loop μ-loop
+left-requires c κs = search needs
+
+loop-less : tie.Need-loop-less Inv-loop μ-loop
+loop-less c = search needs
+
+loop-again : tie.Need-loop-again Inv-loop μ-loop
+loop-again c = search needs
+
+slice-aggregate-closed : tie.Need-slice-aggregate-closed Inv-loop μ-loop
+slice-aggregate-closed c = search needs
+
+closed-requires : tie.Need-closed-requires Inv-loop μ-loop
+closed-requires c κs = search needs
+
+slice-aggregate-write : tie.Need-slice-aggregate-write Inv-loop μ-loop
+slice-aggregate-write c = search needs
+
+write-requires : tie.Need-write-requires Inv-loop μ-loop
+write-requires c κs = search needs
+
+returns-2 : tie.Need-returns-2 Inv-loop μ-loop
+returns-2 c = search needs
+
+pub main-spec : {M : Type 1} → statement M
+main-spec =
+    tie.close
+    (tie.spec
+    Inv-loop
+    μ-loop
+    large-buffer-requires
+    new-requires
+    loop-holds
+    slice-aggregate-play-piece
+    play-piece-requires
+    slice-aggregate-flush
+    flush-requires
+    returns
+    left-requires
+    loop-less
+    loop-again
+    slice-aggregate-closed
+    closed-requires
+    slice-aggregate-write
+    write-requires
+    returns-2)

@@ -1,0 +1,128 @@
+//! A desk as something that answers calls, and calls in a row with all that they show. A sheet shows no more than what is live;
+//! this shows every slot after every call.
+use crate::random::Random;
+use crate::scenes::Scene;
+use std::fmt::Write;
+
+#[derive(Clone, Copy, Debug, PartialEq, Eq)]
+pub enum State {
+    Waiting,
+    Prepared,
+    Recording(u8),
+    RunningOn(u8),
+    Ended,
+}
+
+/// Answers are the paper's: 0 or the number of the refusal, or one of them in place of a value.
+pub trait Machine {
+    fn packet(&mut self, time: u32, tuner: u8, bytes: &[u8]) -> u8;
+    /// The number of seconds walked.
+    fn wait(&mut self, time: u32) -> Result<u32, u8>;
+    /// The slot.
+    fn add(&mut self, cni: u16, pil: u32, year: u8) -> Result<u8, u8>;
+    fn cancel(&mut self, slot: u8) -> u8;
+    fn ask(&self, slot: u8) -> Result<State, u8>;
+    fn live(&self) -> u8;
+}
+
+#[derive(Clone, Debug, PartialEq, Eq)]
+pub enum Call {
+    Packet(u32, u8, Vec<u8>),
+    Wait(u32),
+    Add(u16, u32, u8),
+    Cancel(u8),
+    Ask(u8),
+}
+
+/// One line for each call: its answer, what is live, and every slot.
+pub fn play<M: Machine>(desk: &mut M, calls: &[Call]) -> String {
+    let mut out = String::new();
+    let value = |answer: Result<u32, u8>| answer.map_or_else(|n| format!("!{n}"), |v| v.to_string());
+    for call in calls {
+        let answer = match call {
+            Call::Packet(time, tuner, bytes) => format!("packet {}", desk.packet(*time, *tuner, bytes)),
+            Call::Wait(time) => format!("wait {}", value(desk.wait(*time))),
+            Call::Add(cni, pil, year) => format!("add {}", value(desk.add(*cni, *pil, *year).map(u32::from))),
+            Call::Cancel(slot) => format!("cancel {}", desk.cancel(*slot)),
+            Call::Ask(slot) => format!("ask {:?}", desk.ask(*slot)),
+        };
+        write!(out, "{answer}, live {}:", desk.live()).unwrap();
+        for slot in 0..17 {
+            match desk.ask(slot) {
+                Ok(State::Waiting) => out.push_str(" w"),
+                Ok(State::Prepared) => out.push_str(" p"),
+                Ok(State::Recording(place)) => write!(out, " r{place}").unwrap(),
+                Ok(State::RunningOn(place)) => write!(out, " o{place}").unwrap(),
+                Ok(State::Ended) => out.push_str(" e"),
+                Err(15) => out.push_str(" -"),
+                Err(n) => write!(out, " !{n}").unwrap(),
+            }
+        }
+        out.push('\n');
+    }
+    out
+}
+
+/// Calls in a row, the same for the same seed.
+pub fn calls(seed: u64) -> Vec<Call> {
+    in_scene(seed, &mut Scene::new(&mut Random::new(seed ^ 0xCA11)))
+}
+
+/// Near the clock's start, so that every second can be walked.
+pub fn early_calls(seed: u64) -> Vec<Call> {
+    in_scene(seed, &mut Scene::early(&mut Random::new(seed ^ 0xCA11)))
+}
+
+fn in_scene(seed: u64, scene: &mut Scene) -> Vec<Call> {
+    let mut random = Random::new(seed ^ 0xCA11_5EED);
+    let r = &mut random;
+    let mut calls = Vec::new();
+    for (cni, pil, year) in scene.timers(r) {
+        if !r.once_in(4) {
+            calls.push(Call::Add(cni, pil, year));
+        }
+    }
+    if r.once_in(2) {
+        calls.push(Call::Wait(scene.now()));
+    }
+    for _ in 0..scene.length(r) {
+        match r.below(16) {
+            0 => {
+                let time = scene.time(r);
+                calls.push(Call::Wait(time));
+                scene.pass(time);
+            }
+            1 => {
+                // a wait that is cut in two
+                let (from, to) = (scene.now(), scene.time(r));
+                calls.push(Call::Wait(from + r.below(1 + to.saturating_sub(from).min(40) as u64) as u32));
+                calls.push(Call::Wait(to));
+                scene.pass(to);
+            }
+            2 => {
+                let time = scene.refused_time(r);
+                calls.push(Call::Wait(time));
+            }
+            3 | 4 => {
+                let timers = scene.timers(r);
+                let (cni, pil, year) = timers[r.below(timers.len() as u64) as usize];
+                calls.push(Call::Add(cni, pil, year));
+            }
+            5 => {
+                // the year after: what fills a slot whose window has ended
+                let (cni, pil, year) = scene.programme(r);
+                calls.push(Call::Add(cni, pil, year.wrapping_add(1)));
+            }
+            6 => calls.push(Call::Cancel(if r.once_in(3) { r.byte() % 20 } else { r.byte() % 3 })),
+            7 => calls.push(Call::Ask(r.byte() % 20)),
+            _ => {
+                let (time, tuner, mut bytes) = scene.packet(r);
+                if r.once_in(60) {
+                    bytes.resize(r.below(60) as usize, 0x15);
+                }
+                calls.push(Call::Packet(time, tuner, bytes));
+            }
+        }
+    }
+    calls
+}

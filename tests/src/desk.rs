@@ -1,0 +1,618 @@
+//! The desk as the paper words it: every second is walked, and at every moment every timer's copy is worked out anew from the
+//! labels that stand. Nothing is kept that could be worked out, but for the window of a timer.
+use crate::calendar::END;
+use crate::calls::{Machine, State};
+use crate::faults::{self, Fault};
+use crate::paper::{self, Label};
+
+const STANDS: u32 = 5;
+const RUNS_ON: u32 = 30;
+
+const RIT: u8 = 2;
+const INTERRUPTION: u8 = 3;
+const CONTINUATION: u8 = 4;
+const NO_SPECIFIC_VALUE: u8 = 5;
+
+/// How seconds are passed.
+#[derive(Clone, Copy, Debug, PartialEq, Eq)]
+pub enum Pace {
+    /// Each second is a moment, whatever stands.
+    Every,
+    /// Once a moment has found no label standing and nothing live, every timer waits or has ended. No later second can change
+    /// that before a call does: no label can match, and nothing is there that could leave. So the clock alone is put forward.
+    Quiet,
+}
+
+#[derive(Clone, Copy)]
+struct Heard {
+    label: Label,
+    stamp: u32,
+}
+
+#[derive(Clone, Copy, PartialEq, Eq)]
+enum Copy {
+    Waiting,
+    Prepared,
+    Recording { place: usize, mi: u8 },
+    RunningOn { place: usize, since: u32 },
+}
+
+#[derive(Clone, Copy)]
+struct Held {
+    cni: u16,
+    pil: u32,
+    year: u8,
+    opens: u32,
+    closes: u32,
+    copy: Copy,
+}
+
+pub struct Desk {
+    clock: u32,
+    places: [Option<Heard>; 16],
+    slots: [Option<Held>; 16],
+    pace: Pace,
+    fault: Option<Fault>,
+    obeyed: u32,
+}
+
+impl Desk {
+    pub fn new() -> Desk {
+        Desk::with(Pace::Quiet, None)
+    }
+
+    pub fn with(pace: Pace, fault: Option<Fault>) -> Desk {
+        Desk { clock: 0, places: [None; 16], slots: [None; 16], pace, fault, obeyed: 0 }
+    }
+
+    pub fn clock(&self) -> u32 {
+        self.clock
+    }
+
+    fn has(&self, fault: Fault) -> bool {
+        self.fault == Some(fault)
+    }
+
+    fn standing(&self, place: usize) -> Option<Label> {
+        let stands = match self.fault {
+            Some(Fault::StandsFour) => STANDS - 1,
+            Some(Fault::StandsSix) => STANDS + 1,
+            _ => STANDS,
+        };
+        self.places[place].filter(|heard| self.clock - heard.stamp <= stands).map(|heard| heard.label)
+    }
+
+    fn ended(&self, held: &Held) -> bool {
+        self.clock >= held.closes
+    }
+
+    /// The label at a place, if it stands and matches.
+    fn matching(&self, place: usize, held: &Held) -> Option<Label> {
+        let open = held.opens <= self.clock && (self.clock < held.closes || self.has(Fault::CloseIgnored));
+        self.standing(place).filter(|label| {
+            let cni = match self.fault {
+                Some(Fault::CniIgnored) => true,
+                Some(Fault::CountryIgnored) => label.cni & 0xFF == held.cni & 0xFF,
+                _ => label.cni == held.cni,
+            };
+            let pil = label.pil == held.pil
+                || self.has(Fault::NspvMatchesAll) && paper::service(label.pil) == NO_SPECIFIC_VALUE;
+            cni && pil && open && !(self.has(Fault::PtyDecides) && label.pty != 0)
+        })
+    }
+
+    /// A recording at the lowest place with a match and PRF 0.
+    fn start(&self, held: &Held) -> Option<Copy> {
+        (0..16).find_map(|nth| {
+            let place = match self.fault {
+                Some(Fault::HighestPlace) => 15 - nth,
+                Some(Fault::LciBeforeTuner) => nth % 4 * 4 + nth / 4,
+                _ => nth,
+            };
+            let label = self.matching(place, held)?;
+            (label.prf == 0 || self.has(Fault::PrfStarts)).then(|| Copy::Recording { place, mi: label.mi })
+        })
+    }
+
+    fn not_live(&self, held: &Held) -> Copy {
+        self.start(held).unwrap_or_else(|| {
+            if (0..16).any(|place| self.matching(place, held).is_some()) {
+                Copy::Prepared
+            } else {
+                Copy::Waiting
+            }
+        })
+    }
+
+    fn leaves(&self, held: &Held) -> Copy {
+        if self.has(Fault::LeavesToWaiting) {
+            Copy::Waiting
+        } else {
+            self.not_live(held)
+        }
+    }
+
+    /// What a copy is after a moment at the present second.
+    fn next(&self, held: &Held) -> Copy {
+        if self.ended(held) && !self.has(Fault::CloseIgnored) {
+            return match held.copy {
+                _ if !self.has(Fault::CloseRunsOn) => Copy::Waiting,
+                Copy::Recording { place, mi: 0 } => Copy::RunningOn { place, since: self.clock },
+                Copy::RunningOn { since, .. } if self.clock - since < RUNS_ON => held.copy,
+                _ => Copy::Waiting,
+            };
+        }
+        match held.copy {
+            Copy::Recording { place, mi } => {
+                if let Some(label) = self.matching(place, held) {
+                    if !(self.has(Fault::PrfStops) && label.prf == 1) {
+                        let stays = Copy::Recording { place, mi: if self.has(Fault::MiOfFirstLabel) { mi } else { label.mi } };
+                        return if self.has(Fault::MovesAlways) { self.start(held).unwrap_or(stays) } else { stays };
+                    }
+                }
+                if let Some(Copy::Recording { place, mi: new }) = self.start(held) {
+                    return Copy::Recording { place, mi: if self.has(Fault::MiKeptInMoving) { mi } else { new } };
+                }
+                let at_once = match self.fault {
+                    Some(Fault::NeverRunsOn) => true,
+                    Some(Fault::AlwaysRunsOn) => false,
+                    Some(Fault::MiOfComingLabel) => self.standing(place).map_or(mi, |label| label.mi) == 1,
+                    Some(Fault::RitEndsAtOnce) => mi == 1 || self.service_at(place) == Some(RIT),
+                    Some(Fault::InterruptionEndsAtOnce) => mi == 1 || self.service_at(place) == Some(INTERRUPTION),
+                    Some(Fault::PreparedAtOnce) => mi == 1 || self.not_live(held) == Copy::Prepared,
+                    _ => mi == 1,
+                };
+                if at_once {
+                    return self.leaves(held);
+                }
+                let since = match self.places[place] {
+                    Some(heard) if self.has(Fault::RunsOnFromStamp) && self.standing(place).is_none() => heard.stamp,
+                    _ => self.clock,
+                };
+                Copy::RunningOn { place, since }
+            }
+            Copy::RunningOn { since, .. } => {
+                let runs_on = match self.fault {
+                    Some(Fault::RunsOn29) => RUNS_ON - 1,
+                    Some(Fault::RunsOn31) => RUNS_ON + 1,
+                    _ => RUNS_ON,
+                };
+                if !self.has(Fault::RunOnNotRetaken) {
+                    if let Some(recording) = self.start(held) {
+                        return recording;
+                    }
+                }
+                if self.clock.saturating_sub(since) < runs_on {
+                    held.copy
+                } else {
+                    self.leaves(held)
+                }
+            }
+            Copy::Waiting | Copy::Prepared => self.not_live(held),
+        }
+    }
+
+    fn service_at(&self, place: usize) -> Option<u8> {
+        self.standing(place).map(|label| paper::service(label.pil))
+    }
+
+    fn moment(&mut self) {
+        for slot in 0..16 {
+            if let Some(mut held) = self.slots[slot] {
+                held.copy = self.next(&held);
+                self.slots[slot] = Some(held);
+            }
+        }
+    }
+
+    fn live_copies(&self) -> u8 {
+        let mut live = 0;
+        for held in self.slots.iter().flatten() {
+            live += match held.copy {
+                Copy::Recording { .. } if self.has(Fault::SecondCopy) => {
+                    (0..16).filter(|&p| self.matching(p, held).map_or(false, |l| l.prf == 0)).count().max(1) as u8
+                }
+                Copy::Recording { .. } | Copy::RunningOn { .. } => 1,
+                Copy::Prepared => self.has(Fault::PreparedIsLive) as u8,
+                Copy::Waiting => 0,
+            };
+        }
+        live
+    }
+
+    fn nothing_stands(&self) -> bool {
+        (0..16).all(|place| self.standing(place).is_none())
+    }
+
+    fn nothing_is_live(&self) -> bool {
+        !self.slots.iter().flatten().any(|held| matches!(held.copy, Copy::Recording { .. } | Copy::RunningOn { .. }))
+    }
+
+    fn quiet(&self) -> bool {
+        (self.nothing_stands() || self.has(Fault::WalkedLive)) && self.nothing_is_live()
+    }
+
+    /// Passes every second up to t, t too, and gives the least number of them after which the desk is quiet, or all of them.
+    fn pass(&mut self, t: u32) -> u32 {
+        let whole = t - self.clock;
+        if self.has(Fault::LapseAtPacketOnly) {
+            self.clock = t;
+            return whole;
+        }
+        let mut walked = None;
+        for second in 0..=whole {
+            if second > 0 {
+                self.clock += 1;
+                self.moment();
+            }
+            if walked.is_none() && self.quiet() {
+                walked = Some(second);
+            }
+            if self.pace == Pace::Quiet && self.nothing_stands() && self.nothing_is_live() {
+                self.clock = t;
+                break;
+            }
+        }
+        match self.fault {
+            Some(Fault::WalkedWhole) => whole,
+            Some(Fault::WalkedOneMore) => (walked.unwrap_or(whole) + 1).min(whole),
+            _ => walked.unwrap_or(whole),
+        }
+    }
+
+    fn time_refused(&self, time: u32) -> Option<u8> {
+        let past = time > END || self.has(Fault::EndRefused) && time == END;
+        if time < self.clock && !self.has(Fault::BackTaken) {
+            Some(9)
+        } else if past && !self.has(Fault::PastEndTaken) {
+            Some(10)
+        } else {
+            None
+        }
+    }
+
+    /// The label of a packet that is accepted at that time.
+    fn accepts(&self, time: u32, tuner: u8, bytes: &[u8]) -> Result<Label, u8> {
+        let tuner_refused = tuner > if self.has(Fault::TunerFourTaken) { 4 } else { 3 };
+        if tuner_refused && !self.has(Fault::TunerAfterTime) {
+            return Err(8);
+        }
+        let read = faults::read(bytes, self.fault);
+        if self.has(Fault::DamageBeforeTime) {
+            read?;
+        }
+        if let Some(refusal) = self.time_refused(time) {
+            return Err(refusal);
+        }
+        if tuner_refused {
+            return Err(8);
+        }
+        let label = read?;
+        if label.luf == 1 && !self.has(Fault::LufIgnored) {
+            return Err(7);
+        }
+        Ok(label)
+    }
+
+    fn hear(&mut self, place: usize, label: Label) {
+        let stamp = self.clock;
+        let service = paper::service(label.pil);
+        if service == CONTINUATION && !self.has(Fault::ContinuationStands) {
+            let stands = match self.standing(place) {
+                Some(old) if self.has(Fault::ContinuationAsksCni) => old.cni == label.cni,
+                Some(old) if self.has(Fault::ContinuationAsksProgramme) => paper::service(old.pil) == 0,
+                Some(_) => !self.has(Fault::ContinuationIgnored),
+                None => self.has(Fault::ContinuationRenewsLapsed),
+            };
+            if let Some(heard) = self.places[place].as_mut().filter(|_| stands) {
+                heard.stamp = stamp;
+                match self.fault {
+                    Some(Fault::ContinuationBringsMi) => heard.label.mi = label.mi,
+                    Some(Fault::ContinuationBringsPrf) => heard.label.prf = label.prf,
+                    _ => {}
+                }
+            }
+            return;
+        }
+        if self.has(Fault::ServiceCodesIgnored) && service != 0 {
+            return;
+        }
+        // no date of any year: 29 February is one of 2000
+        if self.has(Fault::UnrealRefused) && service == 0 && faults::window(label.pil, 0, None).is_err() {
+            return;
+        }
+        self.places[place] = Some(Heard { label, stamp });
+    }
+
+    fn same(&self, held: &Held, cni: u16, pil: u32, year: u8) -> bool {
+        (held.cni, held.pil) == (cni, pil) && (held.year == year || self.has(Fault::TwinBySight))
+    }
+
+    /// The lowest slot that is free or whose window has ended.
+    fn room(&self) -> Option<usize> {
+        let free = |slot: &usize| self.slots[*slot].is_none();
+        let ended = |slot: &usize| self.slots[*slot].map_or(false, |held| self.ended(&held));
+        match self.fault {
+            Some(Fault::EndedNotReused) => (0..16).find(free),
+            Some(Fault::EndedFirst) => (0..16).find(ended).or_else(|| (0..16).find(free)),
+            Some(Fault::HighestSlot) => (0..16).rev().find(|slot| free(slot) || ended(slot)),
+            Some(Fault::FifteenSlots) => (0..15).find(|slot| free(slot) || ended(slot)),
+            Some(Fault::SeventeenTimers) => (0..16).find(|slot| free(slot) || ended(slot)).or(Some(0)),
+            _ => (0..16).find(|slot| free(slot) || ended(slot)),
+        }
+    }
+
+    fn held(&self, slot: u8) -> Result<Held, u8> {
+        self.slots.get(slot as usize).copied().flatten().ok_or(15)
+    }
+}
+
+impl Default for Desk {
+    fn default() -> Desk {
+        Desk::new()
+    }
+}
+
+impl Machine for Desk {
+    fn packet(&mut self, time: u32, tuner: u8, bytes: &[u8]) -> u8 {
+        let label = match self.accepts(time, tuner, bytes) {
+            Ok(label) => label,
+            Err(refusal) => {
+                let moves = self.has(Fault::RefusedMovesClock) || self.has(Fault::LufMovesClock) && refusal == 7;
+                if (moves || self.has(Fault::RefusedWalks)) && self.time_refused(time).is_none() {
+                    let clock = self.clock;
+                    self.pass(time);
+                    if !moves {
+                        self.clock = clock;
+                    }
+                }
+                return refusal;
+            }
+        };
+        let time = time.max(self.clock);
+        let again = time == self.clock && self.obeyed > 0;
+        if self.has(Fault::FirstPacketOnly) && self.obeyed > 0 || self.has(Fault::FirstTunerOnly) && tuner > 0 {
+            self.pass(time);
+            return 0;
+        }
+        self.obeyed += 1;
+        let place = match self.fault {
+            Some(Fault::TunersAsOne) => label.lci as usize,
+            Some(Fault::LcisAsOne) => 4 * (tuner as usize % 4),
+            _ => 4 * (tuner as usize % 4) + label.lci as usize,
+        };
+        if self.has(Fault::SecondAfterPacket) && time > self.clock {
+            self.pass(time - 1);
+            self.clock = time;
+        } else {
+            self.pass(time);
+        }
+        self.hear(place, label);
+        if !(self.has(Fault::OneMomentASecond) && again) {
+            self.moment();
+        }
+        0
+    }
+
+    fn wait(&mut self, time: u32) -> Result<u32, u8> {
+        if self.has(Fault::WaitPresentRefused) && time == self.clock {
+            return Err(9);
+        }
+        match self.time_refused(time) {
+            Some(refusal) => Err(refusal),
+            None => Ok(self.pass(time.max(self.clock))),
+        }
+    }
+
+    fn add(&mut self, cni: u16, pil: u32, year: u8) -> Result<u8, u8> {
+        let (opens, closes) = faults::window(pil, year, self.fault)?;
+        let twin = self.slots.iter().flatten().find(|held| self.same(held, cni, pil, year));
+        if twin.is_some() && self.has(Fault::TwinBeforeEnded) {
+            return Err(13);
+        }
+        let ended = if self.has(Fault::EndedLate) { self.clock > closes } else { self.clock >= closes };
+        if ended && !self.has(Fault::EndedTaken) {
+            return Err(12);
+        }
+        let room = self.room();
+        if room.is_none() && self.has(Fault::FullBeforeTwin) {
+            return Err(14);
+        }
+        if twin.map_or(false, |held| !self.ended(held)) && !self.has(Fault::TwinTaken) {
+            return Err(13);
+        }
+        let slot = room.ok_or(14)?;
+        self.slots[slot] = Some(Held { cni, pil, year, opens, closes, copy: Copy::Waiting });
+        if !self.has(Fault::AddIsNoMoment) {
+            self.moment();
+        }
+        Ok(slot as u8)
+    }
+
+    fn cancel(&mut self, slot: u8) -> u8 {
+        match self.held(slot) {
+            Err(refusal) => refusal,
+            Ok(held) if self.has(Fault::CancelRefusesEnded) && self.ended(&held) => 15,
+            Ok(held) => {
+                self.slots[slot as usize] = match self.fault {
+                    Some(Fault::CancelOnlyEnds) => Some(Held { opens: 0, closes: 0, copy: Copy::Waiting, ..held }),
+                    _ => None,
+                };
+                self.moment();
+                0
+            }
+        }
+    }
+
+    fn ask(&self, slot: u8) -> Result<State, u8> {
+        let held = self.held(slot)?;
+        if self.ended(&held) {
+            return match self.fault {
+                Some(Fault::AskRefusesEnded) => Err(15),
+                Some(Fault::EndedWaits) => Ok(State::Waiting),
+                _ => Ok(State::Ended),
+            };
+        }
+        Ok(match held.copy {
+            Copy::Waiting => State::Waiting,
+            Copy::Prepared => State::Prepared,
+            Copy::Recording { place, .. } => State::Recording(place as u8),
+            Copy::RunningOn { .. } if self.has(Fault::RunOnAtLowest) => State::RunningOn(0),
+            Copy::RunningOn { place, .. } => State::RunningOn(place as u8),
+        })
+    }
+
+    fn live(&self) -> u8 {
+        self.live_copies()
+    }
+}
+
+#[cfg(test)]
+mod tests {
+    use super::*;
+
+    const CNI: u16 = 0x1D65;
+    const PIL: u32 = 0x7BCDE;
+    const T: u32 = 80_000_000 + 30_000;
+
+    fn code(hour: u32) -> u32 {
+        15 << 11 | hour << 6 | 63
+    }
+
+    /// Label at a place: CNI as above, designation 2, all else as given.
+    fn say(desk: &mut Desk, time: u32, tuner: u8, lci: u8, pil: u32, mi: u8, prf: u8) {
+        let mut p = [0; 42];
+        assert_eq!(paper::write(&Label { designation: 2, lci, mi, prf, pil, cni: CNI, ..Label::default() }, &mut p), 0);
+        assert_eq!(desk.packet(time, tuner, &p), 0);
+    }
+
+    /// A desk with the timer of the paper, in its window.
+    fn desk() -> Desk {
+        let mut desk = Desk::with(Pace::Quiet, None);
+        assert_eq!(desk.add(CNI, PIL, 2), Ok(0));
+        assert!(desk.wait(T - 10).is_ok());
+        desk
+    }
+
+    #[test]
+    fn example_8_a_label_stands_five_seconds() {
+        let mut d = desk();
+        say(&mut d, T, 0, 0, PIL, 1, 0);
+        d.wait(T + 5).unwrap();
+        assert_eq!(d.ask(0), Ok(State::Recording(0)));
+        d.wait(T + 6).unwrap();
+        assert_eq!(d.ask(0), Ok(State::Waiting));
+    }
+
+    #[test]
+    fn example_9_rit_over_a_recording() {
+        let mut d = desk();
+        say(&mut d, T - 3, 0, 0, PIL, 0, 0);
+        say(&mut d, T, 0, 0, code(30), 0, 0);
+        assert_eq!(d.ask(0), Ok(State::RunningOn(0)));
+        d.wait(T + 29).unwrap();
+        assert_eq!(d.live(), 1);
+        d.wait(T + 30).unwrap();
+        assert_eq!(d.live(), 0);
+
+        let mut d = desk();
+        say(&mut d, T - 3, 0, 0, PIL, 1, 0);
+        assert_eq!(d.live(), 1);
+        // the MI of the service code itself does not count
+        say(&mut d, T, 0, 0, code(30), 0, 0);
+        assert_eq!(d.live(), 0);
+    }
+
+    #[test]
+    fn example_10_continuation() {
+        let mut d = desk();
+        say(&mut d, T, 0, 0, PIL, 1, 0);
+        say(&mut d, T + 5, 0, 0, code(28), 0, 1);
+        d.wait(T + 10).unwrap();
+        assert_eq!(d.live(), 1);
+        d.wait(T + 11).unwrap();
+        assert_eq!(d.live(), 0);
+
+        let mut d = desk();
+        say(&mut d, T, 0, 0, PIL, 1, 0);
+        say(&mut d, T + 6, 0, 0, code(28), 0, 0);
+        assert_eq!(d.ask(0), Ok(State::Waiting));
+        assert_eq!(d.wait(T + 100), Ok(0));
+    }
+
+    #[test]
+    fn example_11_prepared_is_not_live() {
+        let mut d = desk();
+        say(&mut d, T, 2, 1, PIL, 0, 1);
+        assert_eq!((d.ask(0), d.live()), (Ok(State::Prepared), 0));
+        say(&mut d, T, 2, 1, PIL, 0, 0);
+        assert_eq!((d.ask(0), d.live()), (Ok(State::Recording(9)), 1));
+    }
+
+    #[test]
+    fn example_12_the_second_tuner_takes_over_from_the_run_on() {
+        let mut d = desk();
+        say(&mut d, T, 0, 0, PIL, 0, 0);
+        d.wait(T + 9).unwrap();
+        assert_eq!(d.ask(0), Ok(State::RunningOn(0)));
+        say(&mut d, T + 10, 1, 0, PIL, 0, 0);
+        assert_eq!((d.ask(0), d.live()), (Ok(State::Recording(4)), 1));
+    }
+
+    #[test]
+    fn a_wait_walks_at_most_36_seconds() {
+        let mut d = desk();
+        say(&mut d, T, 0, 0, PIL, 0, 0);
+        assert_eq!(d.wait(T), Ok(0));
+        assert_eq!(d.wait(T + 1_000), Ok(36));
+        assert_eq!(d.wait(T + 2_000), Ok(0));
+        say(&mut d, T + 2_000, 0, 0, code(31), 0, 0);
+        assert_eq!(d.wait(T + 2_004), Ok(4));
+        assert_eq!(d.wait(T + 3_000), Ok(2));
+        assert_eq!(d.wait(T), Err(9));
+        assert_eq!(d.wait(END + 1), Err(10));
+        assert_eq!(d.wait(END), Ok(0));
+    }
+
+    #[test]
+    fn only_prf_1_elsewhere() {
+        for (mi, at_once) in [(0, State::RunningOn(0)), (1, State::Prepared)] {
+            let mut d = desk();
+            say(&mut d, T, 0, 0, PIL, mi, 0);
+            say(&mut d, T + 1, 1, 0, PIL, 0, 1);
+            say(&mut d, T + 2, 0, 0, code(29), 1 - mi, 0);
+            assert_eq!(d.ask(0), Ok(at_once));
+            for s in 3..32 {
+                say(&mut d, T + s, 1, 0, PIL, 0, 1);
+                assert_eq!(d.ask(0), Ok(at_once));
+            }
+            d.wait(T + 32).unwrap();
+            assert_eq!(d.ask(0), Ok(State::Prepared));
+        }
+    }
+
+    #[test]
+    fn a_close_ends_at_once_and_frees_the_slot_for_another() {
+        let close = 80_107_200;
+        let mut d = desk();
+        say(&mut d, close - 1, 0, 0, PIL, 0, 0);
+        assert_eq!(d.live(), 1);
+        assert_eq!(d.wait(close), Ok(1));
+        assert_eq!((d.ask(0), d.live()), (Ok(State::Ended), 0));
+        assert_eq!(d.add(CNI, PIL, 2), Err(12));
+        assert_eq!(d.add(CNI, PIL, 3), Ok(0));
+        assert_eq!(d.ask(0), Ok(State::Waiting));
+        assert_eq!((d.cancel(0), d.cancel(0), d.ask(0), d.ask(16)), (0, 15, Err(15), Err(15)));
+    }
+
+    #[test]
+    fn a_timer_added_records_at_once() {
+        let mut d = Desk::new();
+        say(&mut d, T, 3, 3, PIL, 0, 0);
+        assert_eq!(d.add(CNI, PIL, 2), Ok(0));
+        assert_eq!(d.ask(0), Ok(State::Recording(15)));
+        assert_eq!(d.add(CNI, PIL, 2), Err(13));
+        assert_eq!(d.add(CNI, PIL | 1 << 20, 2), Err(11));
+        assert_eq!(d.add(CNI, PIL, 100), Err(11));
+    }
+}

@@ -1,0 +1,265 @@
+//! Faults that can be switched on in the independent desk and its sheet player, one at a time. What the tests find with each of
+//! them shows what they would find in the compiled desk.
+use crate::calendar;
+use crate::paper::{self, Label};
+
+macro_rules! faults {
+    ($($name:ident: $what:expr,)*) => {
+        #[derive(Clone, Copy, Debug, PartialEq, Eq)]
+        pub enum Fault { $($name),* }
+        impl Fault {
+            pub const ALL: &'static [Fault] = &[$(Fault::$name),*];
+            pub fn what(self) -> &'static str {
+                match self { $(Fault::$name => $what),* }
+            }
+        }
+    };
+}
+
+faults! {
+    StandsFour: "a label stands for 4 seconds",
+    StandsSix: "a label stands for 6 seconds",
+    RunsOn29: "a run-on lasts 29 seconds",
+    RunsOn31: "a run-on lasts 31 seconds",
+    RunsOnFromStamp: "a run-on after a lapse counts from the stamp",
+    RunOnNotRetaken: "a match does not end a run-on",
+    NeverRunsOn: "MI 0 does not run on",
+    AlwaysRunsOn: "MI 1 runs on",
+    MiOfComingLabel: "the MI that counts is that of the label that comes",
+    MiOfFirstLabel: "the MI of the first label is kept",
+    MiKeptInMoving: "a move to another place keeps the MI of the old one",
+    PreparedAtOnce: "a PRF 1 match elsewhere ends a recording of MI 0",
+    LeavesToWaiting: "what ends is not prepared in the same moment",
+    PrfStarts: "PRF 1 starts a recording",
+    PrfStops: "PRF 1 stops a recording",
+    MovesAlways: "a recording moves to the lowest match though its own still matches",
+    HighestPlace: "the highest place comes first",
+    LciBeforeTuner: "places are ordered by LCI, then tuner",
+    SecondCopy: "a second match is a second copy",
+    PreparedIsLive: "prepared counts as live",
+    RitEndsAtOnce: "RI/T ends a recording at once",
+    InterruptionEndsAtOnce: "interruption ends a recording at once",
+    ServiceCodesIgnored: "service codes put no label",
+    NspvMatchesAll: "no specific value matches every PIL",
+    CniIgnored: "the CNI is not compared",
+    CountryIgnored: "the CNI's country is not compared",
+    PtyDecides: "a label with a PTY matches nothing",
+    UnrealRefused: "a label that is no date puts no label",
+    ContinuationIgnored: "continuation does nothing",
+    ContinuationStands: "continuation stands as a label",
+    ContinuationRenewsLapsed: "continuation renews a lapsed label",
+    ContinuationAsksCni: "continuation renews only a label of its CNI",
+    ContinuationAsksProgramme: "continuation renews no service code",
+    ContinuationBringsMi: "continuation brings its MI",
+    ContinuationBringsPrf: "continuation brings its PRF",
+    LapseAtPacketOnly: "a lapse is judged when a packet arrives",
+    SecondAfterPacket: "a packet takes effect before its second passes",
+    OneMomentASecond: "a second packet of one second is no moment",
+    AddIsNoMoment: "a timer added does not record at once",
+    ClosesMinuteEarly: "the window closes at 03:59:00",
+    ClosesSecondLate: "the closing second is still in the window",
+    CloseRunsOn: "a recording runs on after the window's close",
+    CloseIgnored: "a window's close does not end a recording",
+    OpenIgnored: "a match before the window opens counts",
+    OpensDayLate: "hours 0 to 3 open at 20:00 of the date itself",
+    OpensAt22: "hours 0 to 3 open at 22:00",
+    OpensAtMidnight: "hours 0 to 3 open as others do",
+    HourFourIsEarly: "hour 4 opens at 20:00 too",
+    HourThreeIsLate: "hour 3 opens at 00:00",
+    NoLeapYear: "no year is leap",
+    EveryYearLeap: "every year is leap",
+    Year2000NotLeap: "2000 is not leap",
+    AprilOf31: "April has 31 days",
+    StartRefused: "a window that would open before the clock's start is refused",
+    LabelInAddressOrder: "label nibbles in the order of address nibbles",
+    OneBitRefused: "one wrong bit is damage",
+    DamageTaken: "damage is taken for 0",
+    AddressValueFirst: "a wrong byte 0 before a damaged byte 1",
+    DesignationTwoOnly: "designation 3 is refused",
+    SpareRefused: "a spare bit of 1 is refused",
+    LufIgnored: "a packet of LUF 1 is taken",
+    LufMovesClock: "a packet of LUF 1 moves the clock",
+    RefusedMovesClock: "a refused packet moves the clock",
+    RefusedWalks: "a refused packet passes the seconds and then puts the clock back",
+    TunerFourTaken: "tuner 4 is taken for tuner 0",
+    TunerAfterTime: "9 and 10 before 8",
+    DamageBeforeTime: "1 to 6 before 9 and 10",
+    FirstTunerOnly: "only tuner 0 is followed",
+    TunersAsOne: "tuners are not told apart",
+    LcisAsOne: "LCIs are not told apart",
+    FirstPacketOnly: "only the first packet is obeyed",
+    BackTaken: "a time before the clock is taken for the present",
+    EndRefused: "the clock's end is refused",
+    PastEndTaken: "a time past the clock's end is taken",
+    TwinTaken: "the same timer is held twice",
+    TwinBySight: "two timers are the same without looking at the year",
+    FullBeforeTwin: "14 before 13",
+    TwinBeforeEnded: "13 before 12, ended twins too",
+    EndedTaken: "a timer whose window has ended is taken",
+    EndedLate: "a window has ended a second after its close",
+    EndedNotReused: "a slot is used again only if free",
+    EndedFirst: "an ended slot is used before a lower free one",
+    HighestSlot: "the highest slot is used first",
+    FifteenSlots: "fifteen timers fill the desk",
+    SeventeenTimers: "a full desk drops its first timer",
+    WidePilCut: "a PIL of more than 20 bits is cut",
+    YearWraps: "year 100 is taken for 0",
+    CancelRefusesEnded: "an ended timer cannot be cancelled",
+    CancelOnlyEnds: "a cancelled slot is ended, not free",
+    AskRefusesEnded: "an ended timer cannot be asked",
+    EndedWaits: "an ended timer is said to wait",
+    RunOnAtLowest: "a run-on is said to be at place 0",
+    WalkedWhole: "a wait reports its whole length",
+    WalkedLive: "a wait reports the seconds until nothing is live",
+    WalkedOneMore: "a wait reports one second more",
+    WaitPresentRefused: "a wait to the present is refused",
+    LeftOverIsWhole: "left-over bytes end with Z",
+    ShortIsWhole: "short input ends with Z",
+    CutItemPrinted: "a cut item is printed",
+    CutStopsBefore: "short input prints nothing for the last whole packet",
+    LowByteFirst: "times with the low byte first",
+    IndexForSlot: "a timer's number is printed for its slot",
+    RefusedTimerStops: "a refused timer ends the sheet",
+    LiveBefore: "the count is that before the packet",
+    LiveNoughtIfRefused: "the count after a refused packet is 0",
+    LastWaits: "Z waits for what is live",
+    NoLastFeed: "the last line has no line feed",
+}
+
+impl Fault {
+    /// A sheet adds all its timers at second 0, never cancels, asks or waits, and prints only what is live.
+    pub fn needs_calls(self) -> bool {
+        use Fault::*;
+        matches!(
+            self,
+            LeavesToWaiting
+                | ContinuationAsksProgramme
+                | AddIsNoMoment
+                | TwinBeforeEnded
+                | EndedTaken
+                | EndedLate
+                | EndedNotReused
+                | EndedFirst
+                | CancelRefusesEnded
+                | CancelOnlyEnds
+                | AskRefusesEnded
+                | EndedWaits
+                | RunOnAtLowest
+                | WalkedWhole
+                | WalkedLive
+                | WalkedOneMore
+                | WaitPresentRefused
+        )
+    }
+
+    /// Only what a sheet prints can show these.
+    pub fn needs_sheets(self) -> bool {
+        use Fault::*;
+        matches!(
+            self,
+            LeftOverIsWhole
+                | ShortIsWhole
+                | CutItemPrinted
+                | CutStopsBefore
+                | LowByteFirst
+                | IndexForSlot
+                | RefusedTimerStops
+                | LiveBefore
+                | LiveNoughtIfRefused
+                | LastWaits
+                | NoLastFeed
+        )
+    }
+}
+
+/// The window with a fault of the calendar; without one, the calendar's.
+pub fn window(pil: u32, year: u8, fault: Option<Fault>) -> Result<(u32, u32), u8> {
+    use Fault::*;
+    let fault = match fault {
+        Some(fault) => fault,
+        None => return calendar::window(pil, year),
+    };
+    let hour = pil >> 6 & 31;
+    let early = hour <= 3;
+    match fault {
+        WidePilCut => calendar::window(pil & 0xF_FFFF, year),
+        YearWraps => calendar::window(pil, if year == 100 { 0 } else { year }),
+        NoLeapYear => counted(pil, year, |_| false, 30),
+        EveryYearLeap => counted(pil, year, |_| true, 30),
+        Year2000NotLeap => counted(pil, year, |y| y % 4 == 0 && y > 0, 30),
+        AprilOf31 => counted(pil, year, |y| y % 4 == 0, 31),
+        _ => {
+            let (opens, closes) = calendar::window(pil, year)?;
+            Ok(match fault {
+                ClosesMinuteEarly => (opens, closes - 60),
+                ClosesSecondLate => (opens, closes + 1),
+                OpenIgnored => (0, closes),
+                OpensDayLate if early => (closes - 8 * 3600, closes),
+                OpensAt22 if early => (opens + 2 * 3600, closes),
+                OpensAtMidnight if early => (closes - 28 * 3600, closes),
+                HourFourIsEarly if hour == 4 => (opens.saturating_sub(4 * 3600), closes),
+                HourThreeIsLate if hour == 3 => (closes - 28 * 3600, closes),
+                StartRefused if early && closes == 100_800 => return Err(11),
+                _ => (opens, closes),
+            })
+        }
+    }
+}
+
+/// Days added up month by month, with whatever rule of leap years and length of April.
+fn counted(pil: u32, year: u8, leap: fn(u8) -> bool, april: u32) -> Result<(u32, u32), u8> {
+    let (day, month, hour, minute) = (pil >> 15, pil >> 11 & 15, pil >> 6 & 31, pil & 63);
+    let length = |y: u8, m: u32| match m {
+        2 => 28 + leap(y) as u32,
+        4 => april,
+        6 | 9 | 11 => 30,
+        _ => 31,
+    };
+    let real = pil < 1 << 20 && year <= 99 && hour < 24 && minute < 60 && (1..=12).contains(&month);
+    if !real || day == 0 || day > length(year, month) {
+        return Err(11);
+    }
+    let before = (0..year).flat_map(|y| (1..=12).map(move |m| (y, m))).chain((1..month).map(|m| (year, m)));
+    let midnight = 86_400 * (before.map(|(y, m)| length(y, m)).sum::<u32>() + day - 1);
+    let opens = if hour <= 3 { midnight.saturating_sub(4 * 3600) } else { midnight };
+    Ok((opens, midnight + 28 * 3600))
+}
+
+/// The reader with a fault; without one, the paper's.
+pub fn read(bytes: &[u8], fault: Option<Fault>) -> Result<Label, u8> {
+    use Fault::*;
+    let mut p = bytes.to_vec();
+    let whole = bytes.len() == 42;
+    match fault {
+        Some(LabelInAddressOrder) if whole => {
+            for byte in &mut p[9..22] {
+                if let Some(v) = paper::decode(*byte) {
+                    *byte = paper::good((0..4).fold(0, |n, k| n << 1 | v >> k & 1));
+                }
+            }
+        }
+        Some(OneBitRefused) if whole => {
+            for &i in &paper::HAMMING {
+                if (0..16).all(|v| p[i] != paper::good(v)) {
+                    // two wrong bits in place of one
+                    p[i] = paper::good(0) ^ 3;
+                }
+            }
+        }
+        Some(DamageTaken) if whole => {
+            for &i in &paper::HAMMING[3..] {
+                if paper::decode(p[i]).is_none() {
+                    p[i] = paper::good(0);
+                }
+            }
+        }
+        Some(AddressValueFirst) if whole && paper::decode(p[0]).map_or(false, |v| v != 0) => return Err(3),
+        _ => {}
+    }
+    let label = paper::read(&p)?;
+    match fault {
+        Some(DesignationTwoOnly) if label.designation == 3 => Err(5),
+        Some(SpareRefused) if label.spare == 1 => Err(6),
+        _ => Ok(label),
+    }
+}

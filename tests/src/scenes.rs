@@ -1,0 +1,372 @@
+//! What is on air and when: few programmes at few places, and times chosen where something can turn. Sheets and rows of calls are
+//! made of these. A scene keeps the clock that the desk will have, so that most packets are accepted and the others are refused
+//! on purpose.
+use crate::calendar::{self, END};
+use crate::paper::{self, good, Label};
+use crate::random::Random;
+
+pub type Timer = (u16, u32, u8);
+pub type Packet = (u32, u8, Vec<u8>);
+
+struct Programme {
+    cni: u16,
+    pil: u32,
+    year: u8,
+    window: (u32, u32),
+}
+
+pub struct Scene {
+    programmes: Vec<Programme>,
+    /// Tuner and LCI, few enough to be heard again and again.
+    places: Vec<(u8, u8)>,
+    now: u32,
+    /// Seconds at which a lapse, a run-on's end or a window's edge falls, if all goes as it may.
+    marks: Vec<u32>,
+    last: Option<(u8, Label)>,
+    /// What comes next within a second or two: one programme at several places, so that a copy has a choice where to go.
+    burst: Vec<(u8, Label)>,
+    /// No step is long, so that a window stays open over thousands of packets.
+    steady: bool,
+    /// The share of packets in 16 that repeat what was sent last.
+    repeats: u64,
+}
+
+fn one<T: Copy>(r: &mut Random, of: &[T]) -> T {
+    of[r.below(of.len() as u64) as usize]
+}
+
+/// A service code.
+fn code(hour: u32) -> u32 {
+    15 << 11 | hour << 6 | 63
+}
+
+/// A real date, often one at which a calendar is easily wrong.
+fn date(r: &mut Random) -> (u8, u32, u32) {
+    let year = r.below(100) as u8;
+    let (year, month, day) = match r.below(12) {
+        0 => (0, 1, 1 + r.below(2) as u32),
+        1 => (99, 12, 30 + r.below(2) as u32),
+        2 => (year, 12, 31),
+        3 => (year, 1, 1),
+        4 => (year / 4 * 4, 2, 29),
+        5 => (year, 2, 28),
+        6 => (year, 3, 1),
+        7 => (0, 2, 28 + r.below(2) as u32),
+        8 => (year, 4, 30),
+        _ => (year, 1 + r.below(12) as u32, 1 + r.below(28) as u32),
+    };
+    debug_assert!(calendar::exists(year, month, day));
+    (year, month, day)
+}
+
+fn hour(r: &mut Random) -> u32 {
+    match r.below(4) {
+        0 | 1 => r.below(5) as u32,
+        2 => one(r, &[4, 19, 20, 23]),
+        _ => r.below(24) as u32,
+    }
+}
+
+impl Scene {
+    pub fn new(r: &mut Random) -> Scene {
+        let date = date(r);
+        Scene::on(r, date)
+    }
+
+    /// At the clock's start.
+    pub fn early(r: &mut Random) -> Scene {
+        let day = 1 + r.below(2) as u32;
+        Scene::on(r, (0, 1, day))
+    }
+
+    /// From the opening of a window, with no long step.
+    pub fn steady(r: &mut Random) -> Scene {
+        let mut scene = Scene::new(r);
+        scene.now = scene.programmes[0].window.0.saturating_sub(30);
+        scene.steady = true;
+        scene
+    }
+
+    fn on(r: &mut Random, (year, month, day): (u8, u32, u32)) -> Scene {
+        let cnis = [0x1D65, 0x1D66, 0x2D65, 0xFFFF];
+        let mut programmes: Vec<Programme> = Vec::new();
+        let mut push = |cni: u16, pil: u32, year: u8| {
+            if let Ok(window) = calendar::window(pil, year) {
+                programmes.push(Programme { cni, pil, year, window });
+            }
+        };
+        let first = calendar::pil(day, month, hour(r), r.below(60) as u32);
+        push(cnis[0], first, year);
+        for _ in 0..r.below(3) {
+            match r.below(5) {
+                // the same label of another network or country
+                0 => push(cnis[1 + r.below(3) as usize], first, year),
+                // another time of the same date
+                1 | 2 => push(one(r, &cnis), calendar::pil(day, month, hour(r), r.below(60) as u32), year),
+                // the day before or after: windows overlap, also across a month or a year
+                3 => {
+                    let noon = calendar::day_number(year, month, day) * 86_400 + 43_200;
+                    let other = noon + one(r, &[-86_400, 86_400]);
+                    if (0..END as i64).contains(&other) {
+                        let (y, m, d) = calendar::date_at(other as u32);
+                        push(one(r, &cnis), calendar::pil(d, m, hour(r), r.below(60) as u32), y);
+                    }
+                }
+                // the same date in another year
+                _ => push(cnis[0], first, year ^ 1),
+            }
+        }
+        let places: Vec<(u8, u8)> = (0..2 + r.below(4)).map(|_| (r.below(4) as u8, one(r, &[0, 0, 1, 2, 3]))).collect();
+        let (opens, closes) = programmes[0].window;
+        let now = match r.below(8) {
+            0 | 1 => opens.saturating_sub(r.below(40) as u32),
+            2 | 3 => closes - r.below(90) as u32,
+            4 => opens + r.below(4 * 3600) as u32,
+            5 => opens + r.below(4) as u32 * 3600 - r.below(1 + opens.min(30) as u64) as u32,
+            _ => opens + r.below((closes - opens) as u64) as u32,
+        };
+        let marks = programmes.iter().flat_map(|p| [p.window.0, p.window.1]).collect();
+        Scene { programmes, places, now, marks, last: None, burst: Vec::new(), steady: false, repeats: r.below(10) }
+    }
+
+    pub fn now(&self) -> u32 {
+        self.now
+    }
+
+    /// How many packets or calls to make.
+    pub fn length(&self, r: &mut Random) -> u64 {
+        match r.below(16) {
+            0 => r.below(4),
+            1 => 40 + r.below(60),
+            _ => 5 + r.below(30),
+        }
+    }
+
+    /// The programme that times are made around.
+    pub fn first(&self) -> Timer {
+        let p = &self.programmes[0];
+        (p.cni, p.pil, p.year)
+    }
+
+    pub fn programme(&self, r: &mut Random) -> Timer {
+        if r.once_in(2) {
+            return self.first();
+        }
+        let p = &self.programmes[r.below(self.programmes.len() as u64) as usize];
+        (p.cni, p.pil, p.year)
+    }
+
+    /// Timers to be added, among them some that are refused.
+    pub fn timers(&self, r: &mut Random) -> Vec<Timer> {
+        let mut timers: Vec<Timer> = self.programmes.iter().map(|p| (p.cni, p.pil, p.year)).collect();
+        if r.once_in(3) {
+            let n = r.below(timers.len() as u64) as usize;
+            timers.swap(0, n);
+        }
+        if r.once_in(4) {
+            timers.truncate(1);
+        }
+        let filler = |r: &mut Random| {
+            let (year, month, day) = date(r);
+            (r.below(4) as u16, calendar::pil(day, month, r.below(24) as u32, r.below(60) as u32), year)
+        };
+        if r.once_in(10) {
+            // more than the desk holds, the programmes first or last
+            let many: Vec<Timer> = (0..13 + r.below(8)).map(|_| filler(r)).collect();
+            let at = if r.once_in(2) { 0 } else { timers.len() };
+            timers.splice(at..at, many);
+        }
+        for _ in 0..r.below(4) {
+            let (cni, pil, year) = self.programme(r);
+            let at = r.below(timers.len() as u64 + 1) as usize;
+            let extra = match r.below(12) {
+                0 | 1 | 2 => one(r, &timers),
+                3 => (cni, pil, 100 + r.byte() % 156),
+                4 => (cni, pil, one(r, &[99, 100, 255])),
+                5 => (cni, pil | 1 << 20 + r.below(4), year),
+                6 => (cni, calendar::pil(29, 2, 4, 0), r.below(100) as u8),
+                7 => (cni, calendar::pil(one(r, &[0, 28, 29, 30, 31]), r.below(16) as u32, hour(r), 0), year),
+                8 => (cni, calendar::pil(1, 1, 20 + r.below(12) as u32, 55 + r.below(9) as u32), year),
+                9 => (cni, calendar::pil(0, 15, 28 + r.below(4) as u32, 63), year),
+                10 => (cni, pil, year ^ 1),
+                _ => filler(r),
+            };
+            timers.insert(at, extra);
+        }
+        timers
+    }
+
+    /// A time that the desk accepts.
+    pub fn time(&mut self, r: &mut Random) -> u32 {
+        let step = match r.below(16) {
+            _ if !self.burst.is_empty() => one(r, &[0, 0, 1]),
+            0 | 1 => 0,
+            2 | 3 | 4 => 1,
+            5 => 2 + r.below(3) as u32,
+            6 => 5,
+            7 => 6,
+            8 => 7 + r.below(30) as u32,
+            9 => one(r, &[29, 30, 31, 35, 36, 37]),
+            10 if !self.steady && r.once_in(8) => r.below(200_000) as u32,
+            _ => {
+                let now = self.now;
+                self.marks.retain(|&mark| mark >= now);
+                // the nearest marks, or a window's edge far ahead
+                let far = !self.steady;
+                let near: Vec<u32> =
+                    self.marks.iter().copied().filter(|&mark| mark <= now + 60 || far && r.once_in(20)).collect();
+                if near.is_empty() {
+                    1
+                } else {
+                    let mark = one(r, &near);
+                    (mark - now + one(r, &[0, 0, 0, 1, 2])).saturating_sub(one(r, &[0, 0, 0, 1]))
+                }
+            }
+        };
+        (self.now.saturating_add(step)).min(END)
+    }
+
+    pub fn pass(&mut self, time: u32) {
+        self.now = time;
+    }
+
+    pub fn refused_time(&mut self, r: &mut Random) -> u32 {
+        if self.now == 0 || r.once_in(3) {
+            let far = if r.once_in(2) { 2 } else { (u32::MAX - END) as u64 };
+            END + 1 + r.below(far) as u32
+        } else {
+            self.now - 1 - r.below(self.now.min(20) as u64) as u32
+        }
+    }
+
+    fn label(&mut self, r: &mut Random) -> (u8, Label) {
+        if let Some(next) = self.burst.pop() {
+            return next;
+        }
+        let next = self.any_label(r);
+        if r.once_in(6) {
+            let (tuner, label) = next;
+            for _ in 0..1 + r.below(4) {
+                let (tuner, lci) = one(r, &self.places);
+                self.burst.push((tuner, Label { lci, mi: r.below(2) as u8, prf: r.once_in(6) as u8, ..label }));
+            }
+            if r.once_in(2) {
+                // last, so that the copy must leave its place while others match
+                let (tuner, lci) = if r.once_in(3) { one(r, &self.places) } else { (tuner, label.lci) };
+                let pil = code(29 + r.below(3) as u32);
+                self.burst.insert(0, (tuner, Label { lci, pil, ..label }));
+            }
+        }
+        next
+    }
+
+    fn any_label(&mut self, r: &mut Random) -> (u8, Label) {
+        if r.below(16) < self.repeats {
+            if let Some(last) = self.last {
+                return last;
+            }
+        }
+        let (mut tuner, mut lci) = one(r, &self.places);
+        let (mut cni, programme, _) = self.programme(r);
+        let pil = match r.below(32) {
+            0 | 1 | 2 => code(30),
+            3 => code(29),
+            4 => code(31),
+            5 | 6 | 7 | 8 => code(28),
+            9 => 0xF_FFFF,
+            // no date, or a service code but for one bit
+            10 => calendar::pil(one(r, &[0, 31]), one(r, &[2, 13, 15]), 20 + r.below(12) as u32, 56 + r.below(8) as u32),
+            11 => programme ^ 1 << r.below(20),
+            _ => programme,
+        };
+        if paper::service(pil) != 0 && r.once_in(3) {
+            cni = r.next() as u16;
+        }
+        if let Some((at, label)) = self.last.filter(|_| pil == code(28) && !r.once_in(3)) {
+            // where a label may still stand
+            tuner = at;
+            lci = label.lci;
+        }
+        let label = Label {
+            designation: 2 + r.once_in(3) as u8,
+            lci,
+            prf: r.once_in(4) as u8,
+            mi: r.below(2) as u8,
+            pcs: if r.once_in(4) { r.below(4) as u8 } else { 0 },
+            spare: r.once_in(6) as u8,
+            pty: if r.once_in(3) { r.byte() } else { 0 },
+            cni: if r.once_in(24) { cni ^ 1 << r.below(16) } else { cni },
+            pil,
+            ..Label::default()
+        };
+        if pil != code(28) {
+            self.last = Some((tuner, label));
+        }
+        (tuner, label)
+    }
+
+    /// The next packet, which the desk accepts three times in four or more.
+    pub fn packet(&mut self, r: &mut Random) -> Packet {
+        let time = self.time(r);
+        let (mut tuner, mut label) = self.label(r);
+        if r.once_in(24) {
+            label.luf = 1;
+        }
+        let mut bytes = if r.once_in(2) { vec![0x20; 42] } else { r.bytes(42) };
+        paper::write(&label, &mut bytes);
+        if r.once_in(3) {
+            r.wrong_bits(&mut bytes);
+        }
+        let mut refused = label.luf == 1;
+        let mut when = time;
+        match r.below(64) {
+            0 | 1 => {
+                tuner = if r.once_in(2) { 4 } else { 4 + r.byte() % 252 };
+                refused = true;
+                if r.once_in(3) {
+                    when = self.refused_time(r);
+                }
+            }
+            2 | 3 => {
+                when = self.refused_time(r);
+                refused = true;
+                if r.once_in(3) {
+                    bytes[one(r, &paper::HAMMING)] ^= 0b11;
+                }
+            }
+            4 | 5 | 6 => {
+                // two wrong bits in one byte, at times in an address that is wrong as well
+                let at = one(r, &paper::HAMMING);
+                bytes[at] = good(r.below(16) as u8) ^ 0b11 << r.below(7);
+                if r.once_in(4) {
+                    bytes[r.below(2) as usize] = good(1 + r.below(14) as u8);
+                }
+                refused = true;
+            }
+            7 => {
+                bytes[one(r, &[0, 1])] = good(r.below(16) as u8);
+                refused = true;
+            }
+            8 => {
+                bytes[2] = good(one(r, &[0, 1, 4, 15]));
+                refused = true;
+            }
+            9 => {
+                bytes = r.bytes(42);
+                refused = true;
+            }
+            _ => {}
+        }
+        // what was made to be refused may be good by chance; then the scene only lags behind the desk's clock
+        if !refused {
+            self.pass(time);
+            for after in [5, 6, 29, 30, 31, 35, 36] {
+                self.marks.push(time.saturating_add(after));
+            }
+        } else if when == time && r.once_in(2) {
+            // far enough ahead to be missed if it moved the clock
+            when = time.saturating_add(r.below(45) as u32).min(END);
+        }
+        (when, tuner, bytes)
+    }
+}

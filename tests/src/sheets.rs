@@ -1,0 +1,96 @@
+//! Random sheets, the same for the same seed, of scenes in which states change.
+use crate::random::Random;
+use crate::scenes::{Packet, Scene, Timer};
+
+/// How many sheets the tests play.
+pub const SHEETS: u64 = 10_000;
+
+/// The bytes of whole sections, with these counts.
+pub fn bytes(timers: &[Timer], packets: &[Packet]) -> Vec<u8> {
+    let mut sheet = vec![timers.len() as u8];
+    for &(cni, pil, year) in timers {
+        sheet.extend(cni.to_be_bytes());
+        sheet.extend(&pil.to_be_bytes()[1..]);
+        sheet.push(year);
+    }
+    sheet.extend((packets.len() as u16).to_be_bytes());
+    for (time, tuner, packet) in packets {
+        sheet.extend(time.to_be_bytes());
+        sheet.push(*tuner);
+        sheet.extend(packet);
+    }
+    sheet
+}
+
+fn sections(r: &mut Random, scene: &mut Scene, length: u64) -> (Vec<Timer>, Vec<Packet>) {
+    let timers = scene.timers(r);
+    let packets = (0..length).map(|_| scene.packet(r)).collect();
+    (timers, packets)
+}
+
+pub fn sheet(seed: u64) -> Vec<u8> {
+    let mut random = Random::new(seed ^ 0x5EE7);
+    let r = &mut random;
+    let mut scene = Scene::new(r);
+    let length = scene.length(r);
+    let (timers, packets) = sections(r, &mut scene, length);
+    let mut sheet = bytes(&timers, &packets);
+    match r.below(16) {
+        0 | 1 => sheet.truncate(r.below(sheet.len() as u64) as usize),
+        2 => {
+            // inside or at the edge of the last packets, where something may be live
+            let back = 47 * r.below(4) + r.below(3);
+            sheet.truncate(sheet.len().saturating_sub(back as usize));
+        }
+        3 => {
+            let more = if r.once_in(2) { 1 } else { 1 + r.below(100) };
+            sheet.extend(r.bytes(more as usize));
+        }
+        4 => {
+            // a count that is not that of the items
+            let at = if r.once_in(2) { 0 } else { 2 + 6 * timers.len() };
+            sheet[at] = sheet[at].wrapping_add(one_or_minus(r));
+        }
+        _ => {}
+    }
+    sheet
+}
+
+fn one_or_minus(r: &mut Random) -> u8 {
+    if r.once_in(2) {
+        1
+    } else {
+        255
+    }
+}
+
+/// A whole sheet of that many packets.
+pub fn long(seed: u64, packets: u64) -> Vec<u8> {
+    let mut random = Random::new(seed ^ 0x1046);
+    let r = &mut random;
+    let mut scene = Scene::new(r);
+    let (timers, packets) = sections(r, &mut scene, packets);
+    bytes(&timers, &packets)
+}
+
+/// As many timers and packets as the counts can say. Scenes follow each other in time, and the first sixteen timers are of all of
+/// them, so that something is live in most of it.
+pub fn largest(seed: u64) -> Vec<u8> {
+    let mut random = Random::new(seed ^ 0xFFFF);
+    let r = &mut random;
+    let mut scenes: Vec<Scene> = (0..12).map(|_| Scene::steady(r)).collect();
+    scenes.sort_by_key(|scene| scene.now());
+    let mut timers: Vec<Timer> = scenes.iter().map(|scene| scene.first()).collect();
+    let mut packets = Vec::new();
+    let each = 0xFFFF / scenes.len() + 1;
+    for scene in &mut scenes {
+        timers.extend(scene.timers(r));
+        packets.extend((0..each).map(|_| scene.packet(r)));
+    }
+    while timers.len() < 255 {
+        timers.push(scenes[r.below(12) as usize].programme(r));
+    }
+    timers.truncate(255);
+    packets.truncate(0xFFFF);
+    bytes(&timers, &packets)
+}

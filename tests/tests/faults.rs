@@ -1,0 +1,118 @@
+//! What is made at random bites: every fault that can be switched on in the independent desk changes what some sheet prints, or,
+//! where a sheet cannot show it, what a row of calls answers.
+use against_the_world::calls::{self, Call};
+use against_the_world::desk::{Desk, Pace};
+use against_the_world::faults::Fault;
+use against_the_world::{sheet, sheets};
+
+/// So many sheets must catch a fault, among those that the compiled program plays.
+const CATCHES: usize = 5;
+
+/// What was made, with what the faultless desk says to it. Most faults show early, so no more is made than is looked at.
+struct Made<T, F: Fn(u64) -> (T, String)> {
+    make: F,
+    made: Vec<(T, String)>,
+}
+
+impl<T, F: Fn(u64) -> (T, String)> Made<T, F> {
+    fn new(make: F) -> Made<T, F> {
+        Made { make, made: Vec::new() }
+    }
+
+    /// How many of the first ones another desk says something else to, up to a number that is enough.
+    fn differ<P: Fn(&T) -> String>(&mut self, enough: usize, other: P) -> usize {
+        let mut caught = 0;
+        for n in 0..sheets::SHEETS {
+            if caught == enough {
+                break;
+            }
+            if n as usize == self.made.len() {
+                self.made.push((self.make)(n));
+            }
+            let (input, said) = &self.made[n as usize];
+            caught += (other(input) != *said) as usize;
+        }
+        caught
+    }
+}
+
+fn sheet_with_print(seed: u64) -> (Vec<u8>, String) {
+    let bytes = sheets::sheet(seed);
+    let print = sheet::play(&bytes);
+    (bytes, print)
+}
+
+fn calls_with_answers(seed: u64) -> (Vec<Call>, String) {
+    let calls = calls::calls(seed);
+    let answers = calls::play(&mut Desk::new(), &calls);
+    (calls, answers)
+}
+
+/// How many sheets, and how many rows of calls, catch a fault.
+fn caught(enough: usize, mut tell: impl FnMut(Fault, usize, usize)) {
+    let (mut sheets, mut rows) = (Made::new(sheet_with_print), Made::new(calls_with_answers));
+    for &fault in Fault::ALL {
+        let by_sheets = if fault.needs_calls() { 0 } else { sheets.differ(enough, |bytes| sheet::play_with(bytes, Some(fault))) };
+        let by_calls = if fault.needs_sheets() {
+            0
+        } else {
+            rows.differ(enough, |calls| calls::play(&mut Desk::with(Pace::Quiet, Some(fault)), calls))
+        };
+        tell(fault, by_sheets, by_calls);
+    }
+}
+
+#[test]
+fn every_fault_is_caught() {
+    assert!(Fault::ALL.len() >= 25);
+    caught(CATCHES, |fault, by_sheets, by_calls| {
+        let what = fault.what();
+        assert!(fault.needs_calls() || by_sheets == CATCHES, "{fault:?} ({what}): {by_sheets} sheets");
+        assert!(fault.needs_sheets() || by_calls == CATCHES, "{fault:?} ({what}): {by_calls} rows of calls");
+    });
+}
+
+/// How often each is caught: `cargo test --release --test faults -- --ignored --nocapture`, some minutes.
+#[test]
+#[ignore]
+fn how_often_each_fault_is_caught() {
+    caught(usize::MAX, |fault, by_sheets, by_calls| {
+        println!("{by_sheets:6} {by_calls:6}  {fault:?}: {}", fault.what());
+    });
+}
+
+#[test]
+fn no_fault_no_difference() {
+    for seed in 0..200 {
+        let bytes = sheets::sheet(seed);
+        assert_eq!(sheet::play_with(&bytes, None), sheet::play(&bytes));
+    }
+}
+
+#[test]
+fn the_sheets_show_every_answer_and_live_timers() {
+    let (mut timers, mut packets, mut last) = ([0; 17], [0; 17], [0; 2]);
+    let (mut live, mut turns) = (0, 0);
+    for seed in 0..sheets::SHEETS {
+        let mut before = 0;
+        for line in sheet::play(&sheets::sheet(seed)).lines() {
+            let words: Vec<&str> = line.split(' ').collect();
+            match words[0] {
+                "T" => timers[words[1].strip_prefix('!').map_or(0, |n| n.parse().unwrap())] += 1,
+                "P" => {
+                    packets[words[1].parse::<usize>().unwrap()] += 1;
+                    let now: u32 = words[2].parse().unwrap();
+                    live += (now > 0) as u32;
+                    turns += (now != before) as u32;
+                    before = now;
+                }
+                _ => last[(words[0] == "X") as usize] += 1,
+            }
+        }
+    }
+    // a sheet's packet always has 42 bytes, and all its timers are added before any window has ended
+    assert!((2..=10).chain([0]).all(|n| packets[n] > 300), "{packets:?}");
+    assert!([0, 11, 13, 14].iter().all(|&n| timers[n] > 500), "{timers:?}");
+    assert!(last.iter().all(|&n| n > sheets::SHEETS / 8), "{last:?}");
+    assert!(live > 50_000 && turns > 20_000, "{live} {turns}");
+}

@@ -1,0 +1,134 @@
+//! Windows: beside an independent calendar and beside libzvbi.
+use against_the_world::calendar::{self, END};
+use against_the_world::random::Random;
+use against_the_world::{ours, zvbi};
+
+/// Unix time of the clock's 0.
+const START: i64 = 946_684_800;
+
+fn same(pil: u32, year: u8) {
+    assert_eq!(ours::window(pil, year), calendar::window(pil, year), "PIL {pil:05X} in year {year}");
+}
+
+/// Year, month and day of every date. The clock's last four hours belong to the windows of the day before.
+fn dates() -> impl Iterator<Item = (u8, u32, u32)> {
+    (0..END / 86_400).map(|day| calendar::date_at(86_400 * day))
+}
+
+#[test]
+fn every_real_date_and_hour() {
+    let mut real = 0;
+    for (year, month, day) in dates() {
+        for hour in 0..24 {
+            for minute in [0, (day + hour) % 60, 59] {
+                same(calendar::pil(day, month, hour, minute), year);
+                real += 1;
+            }
+        }
+    }
+    assert_eq!(real, 36_525 * 24 * 3);
+}
+
+#[test]
+fn every_pil_in_years_of_each_kind() {
+    for year in [0, 1, 4, 99, 100] {
+        for pil in 0..1 << 20 {
+            same(pil, year);
+        }
+    }
+}
+
+#[test]
+fn every_date_and_hour_in_every_year() {
+    // unreal days, months and hours too, and years that the clock does not have
+    for year in 0..=255 {
+        for date in 0..1 << 9 {
+            for hour in [0, 3, 4, 23, 24, 31] {
+                same(date << 11 | hour << 6 | 30, year);
+            }
+        }
+        for minute in 0..64 {
+            same(calendar::pil(28, 2, 20, minute), year);
+        }
+    }
+}
+
+#[test]
+fn pils_wider_than_twenty_bits() {
+    let mut random = Random::new(20);
+    for bit in 20..32 {
+        for _ in 0..2_000 {
+            // real but for the bit
+            let pil = calendar::pil(1 + random.below(28) as u32, 1 + random.below(12) as u32, random.below(24) as u32, 30);
+            let year = random.below(100) as u8;
+            assert!(calendar::window(pil, year).is_ok());
+            assert_eq!(ours::window(pil | 1 << bit, year), Err(11));
+        }
+    }
+    for _ in 0..500_000 {
+        same(random.next() as u32, random.byte());
+    }
+}
+
+/// The one date that libzvbi, which has no clock start, opens earlier than the clock allows.
+fn opens_before_the_clock(year: u8, month: u32, day: u32, hour: u32) -> bool {
+    (year, month, day) == (0, 1, 1) && hour <= 3
+}
+
+#[test]
+fn every_real_date_and_hour_as_libzvbi_says() {
+    let mut early = 0;
+    for (year, month, day) in dates() {
+        // libzvbi finds the year itself, as that which brings the PIL nearest to a given time
+        let near = START + 86_400 * calendar::day_number(year, month, day);
+        for hour in 0..24 {
+            let pil = calendar::pil(day, month, hour, (day + 7 * hour) % 60);
+            let (opens, closes) = ours::window(pil, year).unwrap();
+            let (begin, end) = zvbi::window(pil, near).unwrap();
+            let expected = if opens_before_the_clock(year, month, day, hour) {
+                early += 1;
+                assert_eq!(opens, 0);
+                -14_400
+            } else {
+                opens as i64
+            };
+            assert_eq!((begin - START, end - START), (expected, closes as i64), "{day}.{month}.{year} {hour}");
+        }
+    }
+    assert_eq!(early, 4);
+}
+
+/// What libzvbi makes of a PIL that is not real in that year. We refuse them all with 11.
+fn unreal_in_libzvbi(pil: u32, year: u8, near: i64) -> Option<(i64, i64)> {
+    let (day, month, hour) = (pil >> 15, pil >> 11 & 15, pil >> 6 & 31);
+    let midnight = START + 86_400 * calendar::day_number(year, month, day);
+    let no_limit = Some((i64::MIN, i64::MAX));
+    match month {
+        // it looks at no hour's or minute's end: the window of the date
+        _ if calendar::exists(year, month, day) => Some((if hour < 4 { midnight - 14_400 } else { midnight }, midnight + 100_800)),
+        // a service code is for ever
+        15 if day == 0 && hour >= 28 && pil & 63 == 63 => no_limit,
+        // its no specific value has day 15, where clause 6.2 e) has 31; the window is that of a programme type, not built here
+        15 if pil == 0x7_FFFF => Some((near, near + 29 * 86_400 + 14_400)),
+        0 | 15 => None,
+        // a date that its month does not have, and months 13 and 14, are for ever too
+        _ => no_limit,
+    }
+}
+
+#[test]
+fn what_is_not_real_beside_libzvbi() {
+    let mut unreal = 0;
+    for year in [0, 1] {
+        for pil in (0..1 << 20).filter(|pil| [0, 30, 59, 60, 63].contains(&(pil & 63))) {
+            if ours::window(pil, year).is_ok() {
+                continue;
+            }
+            assert_eq!(ours::window(pil, year), Err(11));
+            let near = START + 86_400 * calendar::day_number(year, (pil >> 11 & 15).clamp(1, 12), 15);
+            assert_eq!(zvbi::window(pil, near), unreal_in_libzvbi(pil, year, near), "PIL {pil:05X} in year {year}");
+            unreal += 1;
+        }
+    }
+    assert!(unreal > 80_000, "{unreal}");
+}
