@@ -3,23 +3,11 @@
 //! One sheet is one run of the program. `PLAY` names another command than the one that the build leaves; it may have arguments,
 //! and its path is a whole one. `SHEETS` is another number of random sheets.
 use against_the_world::random::Random;
-use against_the_world::{sheet, sheets};
+use against_the_world::{command, sheet, sheets};
 use std::fs;
 use std::path::{Path, PathBuf};
 use std::process::Command;
 use std::sync::atomic::{AtomicUsize, Ordering};
-
-/// The program and its arguments: with the emulator in front where the tests themselves run under one.
-fn command() -> Vec<String> {
-    if let Ok(play) = std::env::var("PLAY") {
-        return play.split_whitespace().map(String::from).collect();
-    }
-    let play = Path::new(env!("CARGO_MANIFEST_DIR")).join("../target/bin/play");
-    let play = play.canonicalize().unwrap_or(play);
-    assert!(play.is_file(), "{} is missing: build the program first, or name it in PLAY", play.display());
-    let runner = std::env::var("CARGO_TARGET_X86_64_UNKNOWN_LINUX_GNU_RUNNER").ok();
-    runner.into_iter().chain([play.display().to_string()]).collect()
-}
 
 /// One shell starts the program for a whole batch: under an emulator each start out of the test itself would cost as much again.
 const BATCH: usize = 250;
@@ -82,7 +70,7 @@ fn batch<F: Fn(usize) -> Vec<u8>>(command: &[String], dir: &Path, from: usize, t
 
 /// Plays each sheet and compares, on as many threads as there are processors.
 fn same<F: Fn(usize) -> Vec<u8> + Sync>(count: usize, name: &str, sheet_of: F) {
-    let command = command();
+    let command = command::play();
     let scratch = Scratch::new(name);
     let next = AtomicUsize::new(0);
     let threads = std::thread::available_parallelism().map_or(2, |n| n.get());

@@ -1,7 +1,7 @@
 -- Example 12: the seconds up to the first packet pass at once, since the desk is quiet; all else is computed.
 use Prim.Native.Nat.{ℕ}
-use mathlib.Core.Path.{_≡_, refl, sym, ap, _∙_}
-use mathlib.Core.List.{List, [], _∷_}
+use mathlib.Core.Path.{_≡_, refl, sym, ap, ap₂, _∙_}
+use mathlib.Core.List.{List, [], _∷_, _++_}
 use Rattle.hamming.specs.Byte.{D, good, distance, nearTo, nibbleOf}
 use Rattle.calendar.specs.Calendar.{leap, daysIn, dayExists, realIn, sumBelow, daysBeforeMonth, daysOfYear, daysBeforeYear, dayNumber, opening, closing, opensAt, closesAt, windowIn}
 use Rattle.label.specs.Packet.{readingOf, byteFor, writingOf}
@@ -9,6 +9,7 @@ use Rattle.label.specs.Pil.{serviceOf}
 use Rattle.rule.specs.Rule.{stands, heardAt, openAt, endedAt, matches, sightOf, recordingAt, fromRecording, fromRunningOn, nextCopy, nextTimer}
 use Rattle.desk.specs.Moments.{noTimer, fresh, clockedAt, moment, nextSecond, walk, passTo, quiet, walkedIn, walkedTo, liveCount}
 use Rattle.desk.specs.Calls.{withLabel, withTimer, hearingAt, packetOf, waitOf, roomIn, addOf, askOf}
+use Rattle.sheet.specs.Sheet.{decimal, packetLine, timerTold, timerLeft, packetTold, packetLeft, packetsFrom, timersFrom, sheetOf}
 use Rattle.history.specs.Run.{Call, packet, wait, add, ask, live, Done, outcome, answersOf, deskAfter}
 use Rattle.desk.proofs.Fast.{fastTo, fast-pass}
 use Rattle.hamming.specs.Answer.{Answer, given}
@@ -16,7 +17,7 @@ use Rattle.label.specs.Packet.{labelIn}
 use Rattle.rule.specs.declared.Booking.{Booking}
 use Rattle.rule.specs.declared.Copy.the-variants.{Waiting}
 use Rattle.desk.specs.declared.Desk.{Desk}
-use Rattle.marked.specs.Marked.{packetA, takenOver, plainly}
+use Rattle.marked.specs.Marked.{packetA, takenOver, plainly, wholeCase}
 
 -- an accepted call's answer, and then the others'
 after-given : (c : Call) (cs : List Call) (d : Desk) (o : Done) → outcome c d ≡ given o → answersOf (c ∷ cs) d ≡ given (o .tells) ∷ answersOf cs (o .desk)
@@ -61,3 +62,34 @@ twelve =
     ap plainly (after-given (add booking) (packet 0 first packetA ∷ rest) fresh (record { tells = 0 ∷ []; desk = booked }) added)
     ∙ ap (λ (as′ : List (Answer (List ℕ))). 0 ∷ plainly as′) (after-given (packet 0 first packetA) rest booked (record { tells = []; desk = recording }) heard)
     ∙ ap (λ (ns : List ℕ). 0 ∷ 0 ∷ ns) said-then
+
+-- ── as a sheet ─────────────────────────────────────────────────────────────────────────────────────────────────────
+abbrev others : List ℕ
+others = 0x04 ∷ 0xC5 ∷ 0xDF ∷ 0x3D ∷ 4 ∷ packetA ++ (0x04 ∷ 0xC5 ∷ 0xDF ∷ 0x42 ∷ 1 ∷ packetA)
+
+abbrev packets : List ℕ
+packets = 0x04 ∷ 0xC5 ∷ 0xDF ∷ 0x38 ∷ 0 ∷ packetA ++ others
+
+timer-told : sheetOf wholeCase ≡ 84 ∷ 32 ∷ 48 ∷ 10 ∷ packetsFrom 3 booked packets
+unfolding sheetOf timersFrom timerTold timerLeft decimal D good distance nearTo nibbleOf readingOf leap daysIn dayExists realIn sumBelow daysBeforeMonth daysOfYear daysBeforeYear dayNumber opening closing opensAt closesAt windowIn byteFor writingOf serviceOf stands heardAt openAt endedAt matches sightOf recordingAt fromRecording fromRunningOn nextCopy nextTimer moment nextSecond quiet walkedIn walkedTo liveCount hearingAt packetOf waitOf roomIn addOf askOf outcome answersOf deskAfter
+timer-told = refl
+
+first-heard : packetOf 0 first packetA booked ≡ given recording
+unfolding D good distance nearTo nibbleOf readingOf leap daysIn dayExists realIn sumBelow daysBeforeMonth daysOfYear daysBeforeYear dayNumber opening closing opensAt closesAt windowIn byteFor writingOf serviceOf stands heardAt openAt endedAt matches sightOf recordingAt fromRecording fromRunningOn nextCopy nextTimer moment nextSecond quiet walkedIn walkedTo liveCount hearingAt packetOf waitOf roomIn addOf askOf outcome answersOf deskAfter
+first-heard = ap (λ (d : Desk). given (moment (withLabel 0 (labelIn packetA) d))) (sym (fast-pass 1 first booked) ∙ at-first)
+
+first-told : packetsFrom 3 booked packets ≡ packetLine 0 (liveCount recording) ++ packetsFrom 2 recording others
+unfolding packetsFrom packetTold packetLeft
+first-told = rw first-heard
+
+live-then : packetLine 0 (liveCount recording) ≡ 80 ∷ 32 ∷ 48 ∷ 32 ∷ 49 ∷ 10 ∷ []
+unfolding decimal D good distance nearTo nibbleOf readingOf leap daysIn dayExists realIn sumBelow daysBeforeMonth daysOfYear daysBeforeYear dayNumber opening closing opensAt closesAt windowIn byteFor writingOf serviceOf stands heardAt openAt endedAt matches sightOf recordingAt fromRecording fromRunningOn nextCopy nextTimer moment nextSecond walk passTo quiet walkedIn walkedTo liveCount hearingAt packetOf waitOf roomIn addOf askOf outcome answersOf deskAfter
+live-then = refl
+
+others-told : packetsFrom 2 recording others ≡ 80 ∷ 32 ∷ 56 ∷ 32 ∷ 49 ∷ 10 ∷ 80 ∷ 32 ∷ 48 ∷ 32 ∷ 49 ∷ 10 ∷ 90 ∷ 32 ∷ 49 ∷ 10 ∷ []
+unfolding packetsFrom packetTold packetLeft decimal D good distance nearTo nibbleOf readingOf leap daysIn dayExists realIn sumBelow daysBeforeMonth daysOfYear daysBeforeYear dayNumber opening closing opensAt closesAt windowIn byteFor writingOf serviceOf stands heardAt openAt endedAt matches sightOf recordingAt fromRecording fromRunningOn nextCopy nextTimer moment nextSecond walk passTo quiet walkedIn walkedTo liveCount hearingAt packetOf waitOf roomIn addOf askOf outcome answersOf deskAfter
+others-told = refl
+
+pub twelve-sheet : sheetOf wholeCase ≡
+    84 ∷ 32 ∷ 48 ∷ 10 ∷ 80 ∷ 32 ∷ 48 ∷ 32 ∷ 49 ∷ 10 ∷ 80 ∷ 32 ∷ 56 ∷ 32 ∷ 49 ∷ 10 ∷ 80 ∷ 32 ∷ 48 ∷ 32 ∷ 49 ∷ 10 ∷ 90 ∷ 32 ∷ 49 ∷ 10 ∷ []
+twelve-sheet = timer-told ∙ ap (λ (l : List ℕ). 84 ∷ 32 ∷ 48 ∷ 10 ∷ l) (first-told ∙ ap₂ (λ (l m : List ℕ). l ++ m) live-then others-told)

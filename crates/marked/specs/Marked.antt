@@ -14,6 +14,7 @@ use Rattle.rule.specs.Rule.{noLabel, stands}
 use Rattle.rule.specs.declared.Booking.{Booking}
 use Rattle.desk.specs.Moments.{fresh, liveCount}
 use Rattle.desk.specs.Calls.{Says, askOf}
+use Rattle.sheet.specs.Sheet.{sheetOf}
 use Rattle.history.specs.Run.{Call, packet, wait, add, ask, live, answersOf, reached}
 
 pub record Example : Type 0 where
@@ -105,6 +106,14 @@ takenOver =
     ∷ packet 0 0x04C5DF38 packetA ∷ live ∷ packet 4 0x04C5DF3D packetA ∷ live
     ∷ wait 0x04C5DF42 ∷ ask 0 ∷ packet 1 0x04C5DF42 packetA ∷ ask 0 ∷ live ∷ []
 
+-- the whole case of 'the sheet program'
+abbrev pub wholeCase : List ℕ
+wholeCase =
+    0x01 ∷ 0x1D ∷ 0x65 ∷ 0x07 ∷ 0xBC ∷ 0xDE ∷ 0x02 ∷ 0x00 ∷ 0x03
+    ∷ 0x04 ∷ 0xC5 ∷ 0xDF ∷ 0x38 ∷ 0 ∷ packetA
+    ++ (0x04 ∷ 0xC5 ∷ 0xDF ∷ 0x3D ∷ 4 ∷ packetA)
+    ++ (0x04 ∷ 0xC5 ∷ 0xDF ∷ 0x42 ∷ 1 ∷ packetA)
+
 -- answers as numbers: a refusal's, what is told, or 0
 abbrev pub plain : Answer (List ℕ) → List ℕ
 plain (refused n) = n ∷ []
@@ -161,6 +170,11 @@ examples =
     -- 12. 'the second tuner takes over the one copy from its run-on': between the packets the slot says 3, running on, at place 0, and after
     -- the last 2, recording, at place 4; one timer is live throughout
     ∷ record { gives = plainly (answersOf takenOver fresh); paper = 0 ∷ 0 ∷ 1 ∷ 8 ∷ 1 ∷ 10 ∷ 3 ∷ 0 ∷ 0 ∷ 2 ∷ 4 ∷ 1 ∷ [] }
+    -- and as a sheet: T 0, P 0 1, P 8 1, P 0 1, Z 1
+    ∷ record {
+      gives = sheetOf wholeCase;
+      paper = 84 ∷ 32 ∷ 48 ∷ 10 ∷ 80 ∷ 32 ∷ 48 ∷ 32 ∷ 49 ∷ 10 ∷ 80 ∷ 32 ∷ 56 ∷ 32 ∷ 49 ∷ 10 ∷ 80 ∷ 32 ∷ 48 ∷ 32 ∷ 49 ∷ 10 ∷ 90 ∷ 32 ∷ 49 ∷ 10 ∷ [];
+    }
     ∷ []
 
 -- the one statement

@@ -1,0 +1,19 @@
+//! Writes the sheets of `sheets/`, with what the independent desk prints for each.
+use against_the_world::{sheet, teaching};
+use std::{fs, path::Path};
+
+fn main() {
+    let dir = Path::new(env!("CARGO_MANIFEST_DIR")).join("../sheets");
+    fs::create_dir_all(&dir).unwrap();
+    let mut page = String::from(
+        "# Sheets\n\nEach `NAME.sheet` is played by `./play sheets/NAME.sheet`, and prints `NAME.out`. What they hold is written out in\n\
+         `tests/src/teaching.rs`.\n\n| sheet | what it shows |\n|---|---|\n",
+    );
+    for lesson in teaching::lessons() {
+        let bytes = lesson.sheet();
+        fs::write(dir.join(format!("{}.sheet", lesson.name)), &bytes).unwrap();
+        fs::write(dir.join(format!("{}.out", lesson.name)), sheet::play(&bytes)).unwrap();
+        page += &format!("| `{}` | {} |\n", lesson.name, lesson.line);
+    }
+    fs::write(dir.join("README.md"), page).unwrap();
+}

@@ -1,0 +1,110 @@
+//! The sheets of `sheets/`: the whole case of the paper, and one for each thing that a class gets wrong.
+use crate::paper::{self, Label};
+use crate::scenes::{Packet, Timer};
+use crate::sheets;
+
+pub struct Lesson {
+    pub name: &'static str,
+    /// What the class gets wrong, and what the sheet shows.
+    pub line: &'static str,
+    pub timers: Vec<Timer>,
+    pub packets: Vec<Packet>,
+}
+
+impl Lesson {
+    pub fn sheet(&self) -> Vec<u8> {
+        sheets::bytes(&self.timers, &self.packets)
+    }
+}
+
+const CNI: u16 = 0x1D65;
+/// 15 July, 19:30.
+const PIL: u32 = 0x7BCDE;
+const YEAR: u8 = 2;
+/// 15 July 2002, 19:30:00.
+const T: u32 = 0x04C5_DF38;
+/// The window of that day.
+const OPENS: u32 = 80_006_400;
+const CLOSES: u32 = 80_107_200;
+/// Day 0, month 15, hour 30, minute 63.
+const RIT: u32 = 15 << 11 | 30 << 6 | 63;
+/// A programme that no timer waits for.
+const OTHER: u32 = PIL + 5;
+
+fn sent(pil: u32, mi: u8) -> Vec<u8> {
+    let mut packet = vec![0x15; 9];
+    packet.resize(42, 0x20);
+    let label = Label { designation: 2, mi, cni: CNI, pil, ..Label::default() };
+    assert_eq!(paper::write(&label, &mut packet), 0);
+    packet
+}
+
+fn damaged(mut packet: Vec<u8>) -> Vec<u8> {
+    packet[15] ^= 0b11;
+    packet
+}
+
+pub fn lessons() -> Vec<Lesson> {
+    let timer = vec![(CNI, PIL, YEAR)];
+    let (own, own_exact) = (|| sent(PIL, 0), || sent(PIL, 1));
+    let other = || sent(OTHER, 0);
+    let lesson = |name, line, packets| Lesson { name, line, timers: timer.clone(), packets };
+    vec![
+        lesson(
+            "whole_case",
+            "The whole case of the paper: the second tuner takes over the one copy from its run-on.",
+            vec![(T, 0, own()), (T + 5, 4, own()), (T + 10, 1, own())],
+        ),
+        lesson(
+            "a_label_is_a_state",
+            "A label is a state, not an event: it stands for five seconds, so one heard every five seconds never lapses; \
+             once it is gone the copy runs on for thirty.",
+            vec![(T, 0, own()), (T + 5, 0, own()), (T + 10, 1, other()), (T + 40, 1, other()), (T + 41, 1, other())],
+        ),
+        lesson(
+            "the_mode_bit",
+            "The mode bit that counts is that of the label that leaves: MI 0 runs on though RI/T has MI 1, MI 1 stops though RI/T has MI 0.",
+            vec![
+                (T, 0, own()),
+                (T + 1, 0, sent(RIT, 1)),
+                (T + 30, 1, other()),
+                (T + 31, 1, other()),
+                (T + 40, 0, own_exact()),
+                (T + 41, 0, sent(RIT, 0)),
+            ],
+        ),
+        lesson(
+            "the_second_tuner",
+            "A second tuner with the same label starts no second copy; the one copy moves to it when the first loses the label.",
+            vec![(T, 0, own_exact()), (T, 1, own_exact()), (T + 1, 0, other()), (T + 2, 1, other())],
+        ),
+        lesson(
+            "a_lapse_inside_a_wait",
+            "A lapse is judged at its own second, though no packet arrives then: the run-on counts from the sixth second after the stamp.",
+            vec![(T, 0, own()), (T + 35, 1, other()), (T + 36, 1, other()), (T + 100, 0, own_exact()), (T + 106, 1, other())],
+        ),
+        lesson(
+            "the_windows_edges",
+            "The window opens at 00:00:00 and closes at 04:00:00 of the next day: a label heard a second early records when it opens, \
+             and the closing second is outside.",
+            vec![
+                (OPENS - 1, 0, own()),
+                (OPENS, 1, other()),
+                (CLOSES - 1, 0, own()),
+                (CLOSES, 0, own()),
+            ],
+        ),
+        lesson(
+            "a_refused_packet_and_the_clock",
+            "A refused packet changes nothing, the clock included: a wrong tuner and a damaged packet of an hour later leave the recording, \
+             and time that goes back is refused by the last accepted packet's second.",
+            vec![
+                (T, 0, own()),
+                (T + 3600, 5, own()),
+                (T + 3600, 0, damaged(own())),
+                (T + 5, 0, own()),
+                (T + 4, 0, own()),
+            ],
+        ),
+    ]
+}
