@@ -42,6 +42,7 @@ fn count_live(timers: [Timer; 16]) -> u32
 }
 
 impl Desk {
+    // 'Asking a slot gives waiting, prepared, recording with place, running on with place, or ended.'
     pub fn ask(self, slot: usize) -> AskAnswer
         ensures { λ r. ⌜ askAnswer r ≡ askOf slot self ⌝ }
     {

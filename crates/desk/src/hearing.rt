@@ -12,8 +12,8 @@ use crate::moments::CLOCK_END;
 use label::Label;
 use label::Reading;
 use rule::Stamped;
-use rule::copies::label_at;
 use rule::standing::heard_at;
+use rule::standing::label_at;
 
 fn put(places: [Stamped; 16], p: usize, l: Stamped) -> [Stamped; 16]
     ensures { λ r. ⌜ r ≡ set places p l ⌝ }
@@ -27,6 +27,7 @@ fn put(places: [Stamped; 16], p: usize, l: Stamped) -> [Stamped; 16]
 }
 
 impl Desk {
+    // 'Sixteen places, a tuner 0 to 3 with an LCI 0 to 3, ordered by tuner, then LCI.'
     fn with_label(self, tuner: u8, l: Label) -> Desk
         ensures { λ r. ⌜ r ≡ withLabel tuner l self ⌝ }
     {
@@ -94,7 +95,7 @@ impl Desk {
         }
     }
 
-    // A label already read.
+    // A label already read: 8, 9, 10, then 7.
     fn hear(self, tuner: u8, time: u32, l: Label) -> Heard
         ensures { λ r. ⌜ (packetNumber (r .answer) ≡ number (hearing tuner time l self))
             × (r .desk ≡ after self (hearing tuner time l self)) ⌝ }

@@ -4,11 +4,11 @@ mod hearing; // packets and labels
 mod moments; // seconds, waits, and the moment that every accepted call ends in
 mod timers; // adding and cancelling
 
+use rule::Stamped;
+use rule::Timer;
 ghost use mathlib.Core.Bool.{true};
 ghost use mathlib.Core.Path.{_≡_};
 ghost use Rattle.desk.specs.Laws.{Laws};
-use rule::Stamped;
-use rule::Timer;
 
 pub struct Desk {
     pub clock: u32,

@@ -1,4 +1,4 @@
-// Moments and seconds. A second after which the desk is quiet is not walked: see `pass`.
+// Moments, seconds and waits. The seconds after which a desk is quiet are not walked one by one: see `pass`.
 ghost use mathlib.Core.List.{map};
 ghost use mathlib.Core.Path.{_≡_};
 ghost use Rattle.hamming.specs.Answer.{number, after};
@@ -22,7 +22,7 @@ use rule::standing::stands;
 
 pub(crate) const CLOCK_END: u32 = 3155774400;
 
-// A free slot stays free, and costs nothing.
+// A free slot stays free, so there is nothing to do for it.
 fn all_next(s: u32, places: [Stamped; 16], timers: [Timer; 16]) -> [Timer; 16]
     ensures { λ r. ⌜ r ≡ map (nextTimer s places) timers ⌝ }
 {
@@ -79,6 +79,7 @@ pub(crate) struct Pass {
 }
 
 impl Desk {
+    // 'A fresh desk has clock 0, no label at any place and every slot free.'
     pub fn new() -> Desk
         ensures { λ r. ⌜ r ≡ fresh ⌝ }
     {
@@ -91,6 +92,7 @@ impl Desk {
         }
     }
 
+    // 'At each moment every timer's copy goes on.'
     fn moment_at(self, s: u32) -> Desk
         ensures { λ r. ⌜ r ≡ moment (clockedAt s self) ⌝ }
     {
@@ -110,6 +112,7 @@ impl Desk {
         self.moment_at(self.clock)
     }
 
+    // 'No label stands and nothing is live.'
     fn quiet(self) -> bool
         ensures { λ r. ⌜ r ≡ quiet self ⌝ }
     {
@@ -120,7 +123,8 @@ impl Desk {
         !up & !live
     }
 
-    // 'Every second up to t.' Of a quiet desk the moment at t leaves what all the seconds up to it would.
+    // 'A call at t first passes every second up to t.' Of a quiet desk the moment at t leaves what all those seconds would:
+    // a label that has lapsed stays so, and a copy that is prepared falls back to waiting.
     pub(crate) fn pass(self, t: u32) -> Pass
         ensures { λ r. ⌜ (r .walked ≡ walkedTo t self) × (r .desk ≡ passTo t self) ⌝ }
     {
@@ -160,6 +164,7 @@ impl Desk {
         }
         let p = self.pass(time);
         let passed = p.desk;
+        // 'Each accepted call' is a moment, also a wait to the present second.
         let last = passed.moment();
         Waited {
             answer: WaitAnswer::Walked(p.walked),
@@ -167,6 +172,7 @@ impl Desk {
         }
     }
 
+    // One second passes, but not past the clock's end.
     pub fn second(self) -> Passed
         ensures { λ r. ⌜ (secondNumber (r .answer) ≡ number (secondOf self)) × (r .desk ≡ after self (secondOf self)) ⌝ }
     {

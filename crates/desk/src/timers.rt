@@ -47,6 +47,7 @@ pub(crate) fn no_timer() -> Timer
     }
 }
 
+// 'Held and not ended.'
 fn active(s: u32, t: Timer) -> bool
     ensures { λ r. ⌜ r ≡ active s t ⌝ }
 {
@@ -60,13 +61,14 @@ fn active(s: u32, t: Timer) -> bool
     false
 }
 
+// 'Two timers are the same if all three agree.'
 fn same_booking(a: Booking, b: Booking) -> bool
     ensures { λ r. ⌜ r ≡ sameBooking a b ⌝ }
 {
     (a.cni == b.cni) & (a.pil == b.pil) & (a.year == b.year)
 }
 
-// Whether a slot holds the same timer, not ended: its window is computed only where the booking is the same.
+// 'The same timer is held and not ended': the window is computed only where the booking is the same.
 fn holds(s: u32, b: Booking, t: Timer) -> bool
     ensures { λ r. ⌜ r ≡ (active s t && sameBooking b (t .booking)) ⌝ }
 {
@@ -134,6 +136,16 @@ impl Desk {
         }
     }
 
+    // Why nothing is added: the desk is as it was.
+    fn not_added(self, why: AddAnswer) -> Added
+        ensures { λ r. ⌜ r ≡ record { answer = why; desk = self } ⌝ }
+    {
+        Added {
+            answer: why,
+            desk: self,
+        }
+    }
+
     // 'Add: 11 to 14.'
     pub fn add(self, cni: u16, pil: u32, year: u8) -> Added
         ensures { λ r. ⌜ (addAnswer (r .answer) ≡ saidBy (addOf (record { cni = cni; pil = pil; year = year }) self))
@@ -141,10 +153,7 @@ impl Desk {
     {
         let validity = calendar::window_of(pil, year);
         match validity {
-            Validity::Refused => Added {
-                answer: AddAnswer::NotReal,
-                desk: self,
-            },
+            Validity::Refused => self.not_added(AddAnswer::NotReal),
             Validity::Given(w) => {
                 let b = Booking { cni, pil, year };
                 self.book(b, w)
@@ -159,25 +168,16 @@ impl Desk {
             (addAnswer (r .answer) ≡ saidBy o) × (r .desk ≡ leftBy self o)) ⌝ }
     {
         if w.closes <= self.clock {
-            return Added {
-                answer: AddAnswer::Ended,
-                desk: self,
-            };
+            return self.not_added(AddAnswer::Ended);
         }
         let timers = self.timers;
         let held = any_holds(self.clock, timers, b);
         if held {
-            return Added {
-                answer: AddAnswer::Held,
-                desk: self,
-            };
+            return self.not_added(AddAnswer::Held);
         }
         let slot = room(self.clock, timers);
         if 16 <= slot {
-            return Added {
-                answer: AddAnswer::Full,
-                desk: self,
-            };
+            return self.not_added(AddAnswer::Full);
         }
         let t = Timer {
             booking: b,

@@ -13,12 +13,7 @@ module _ {A : Type 0} (f : A → A) where
   mapTo (suc n) [] = []
   mapTo (suc n) (x ∷ xs) = f x ∷ mapTo n xs
 
-  pub mapTo-length : (n : ℕ) (xs : List A) → length (mapTo n xs) ≡ length xs
-  mapTo-length zero xs = refl
-  mapTo-length (suc n) [] = refl
-  mapTo-length (suc n) (x ∷ xs) = ap suc (mapTo-length n xs)
-
-  pub mapTo-at : (n : ℕ) (xs : List A) (d : A) → getD (mapTo n xs) n d ≡ getD xs n d
+  mapTo-at : (n : ℕ) (xs : List A) (d : A) → getD (mapTo n xs) n d ≡ getD xs n d
   mapTo-at zero xs d = refl
   mapTo-at (suc n) [] d = refl
   mapTo-at (suc n) (x ∷ xs) d = mapTo-at n xs d

@@ -1,12 +1,12 @@
 -- A loop that searches a list: what is found from i on, over what is left from i on, at each turn and at the end.
-use Prim.Native.Nat.{ℕ, suc, _+_, _≤_, _<_}
-use mathlib.Core.Path.{_≡_, refl, sym, _∙_}
-use mathlib.Core.Bool.{Bool, true, false, _||_, or-assoc, or-false}
-use mathlib.Core.List.{List, [], _∷_}
+use Prim.Native.Nat.{ℕ, _+_, _≤_, _<_}
+use mathlib.Core.Path.{_≡_}
+use mathlib.Core.Bool.{Bool, true, false, _||_}
+use mathlib.Core.List.{List}
 use lib.ListN.{length, getD, drop, drop-of-length-le}
 use lib.Seq.{drop-cons}
 use native.Mathlib.Numerals.{add-one}
-use Rattle.rule.specs.Rule.{Found, nowhere, at, lowestFrom, some}
+use Rattle.rule.specs.Rule.{nowhere, at, lowestFrom, some}
 
 module _ {A : Type 0} (f : A → Bool) (xs : List A) (i : ℕ) where
   pub lowest-hit : (d : A) → i < length xs → f (getD xs i d) ≡ true → lowestFrom f i (drop i xs) ≡ at i

@@ -1,15 +1,16 @@
 -- What a timer sees: its labels share the window's test, so a look may leave it out and add it at the end.
 use Prim.Native.Nat.{ℕ, suc, _+_, _≤_, _<_}
-use mathlib.Core.Path.{_≡_, refl, sym, ap, _∙_}
+use mathlib.Core.Path.{_≡_, refl, _∙_}
 use mathlib.Core.Bool.{Bool, true, false, cond, not, _&&_, _||_, and-true, and-false, or-assoc, or-false}
 use mathlib.Core.List.{List, [], _∷_}
 use lib.ListN.{length, getD, drop}
+use Rattle.calendar.proofs.Cases.{by-test}
 use Rattle.rule.specs.Rule.{noLabel, nowhere, lowestFrom, some, sightBy, openAt, matches, sightOf}
 use Rattle.rule.specs.Look.{named, lookOf}
 use Rattle.rule.specs.declared.Stamped.{Stamped}
 use Rattle.rule.specs.declared.Booking.{Booking}
 use Rattle.rule.specs.declared.Sight.{Sight}
-use Rattle.rule.specs.declared.Sight.the-variants.{Nothing, Prepare, Start}
+use Rattle.rule.specs.declared.Sight.the-variants.{Nothing, Start}
 use Rattle.rule.proofs.Search.{lowest-hit, lowest-miss, lowest-none, some-more, some-none}
 
 pub match-named : (s : ℕ) (b : Booking) (l : Stamped) → matches s b l ≡ (named s b l && openAt s b)
@@ -68,12 +69,8 @@ some-shut : {A : Type 0} (f : A → Bool) → ((x : A) → f x ≡ false) → (x
 some-shut f h [] = refl
 some-shut f h (x ∷ xs) = rw (h x, some-shut f h xs)
 
-either : {A : Type 0} (o : Bool) (x : A) → cond o x x ≡ x
-either true x = refl
-either false x = refl
-
 module _ (s : ℕ) (ls : List Stamped) (b : Booking) where
-  pub sight-open : openAt s b ≡ true → sightOf s ls b ≡ lookOf s ls b
+  sight-open : openAt s b ≡ true → sightOf s ls b ≡ lookOf s ls b
   unfolding sightOf lookOf
   sight-open e =
       let m : (l : Stamped) → matches s b l ≡ named s b l = λ l. rw (match-named s b l, e, and-true) in
@@ -88,13 +85,8 @@ module _ (s : ℕ) (ls : List Stamped) (b : Booking) where
       let m : (l : Stamped) → matches s b l ≡ false = λ l. rw (match-named s b l, e, and-false) in
       rw (lowest-shut (λ l. matches s b l && not (l .prf)) (λ l. rw (m l)) 0 ls, some-shut (λ l. matches s b l && l .prf) (λ l. rw (m l)) ls)
 
-  -- by the test's value
-  sight-by : (o : Bool) → openAt s b ≡ o → sightOf s ls b ≡ cond o (lookOf s ls b) Nothing
-  sight-by true e = sight-open e
-  sight-by false e = sight-shut e
-
   pub sight-look : sightOf s ls b ≡ cond (openAt s b) (lookOf s ls b) Nothing
-  sight-look = sight-by (openAt s b) refl
+  sight-look = by-test (openAt s b) (λ o. rw o (sight-open o)) (λ o. rw o (sight-shut o))
 
   pub sight-nothing : lookOf s ls b ≡ Nothing → sightOf s ls b ≡ Nothing
-  sight-nothing e = rw (sight-look, e) (either (openAt s b) Nothing)
+  sight-nothing e = by-test (openAt s b) (λ o. sight-open o ∙ e) (λ o. sight-shut o)

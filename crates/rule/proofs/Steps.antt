@@ -1,12 +1,13 @@
--- How a copy goes on, case by case: a window that has ended shows nothing, and one that is not live moves like one that is.
+-- Where the code may leave a test out: a timer that is not live sees nothing once its window has ended, and a free slot stays free.
 use Prim.Native.Nat.{ℕ}
 use mathlib.Core.Path.{_≡_, refl, ap}
-use mathlib.Core.Bool.{Bool, true, false, cond, and-false, true≢false}
+use mathlib.Core.Bool.{true, false, cond, and-false, true≢false}
 use mathlib.Core.List.{List}
 use borrow.Author.Tests.{leb-true, le-ltb}
 use Rattle.hamming.specs.Answer.{Answer, refused, given}
 use Rattle.calendar.specs.declared.Window.{Window}
 use Rattle.calendar.specs.Calendar.{windowIn}
+use Rattle.calendar.proofs.Cases.{by-test}
 use Rattle.rule.specs.Rule.{openIn, closedIn, openAt, endedAt, sightOf, notLive, movesOr, held, nextCopy, nextTimer}
 use Rattle.rule.specs.declared.Stamped.{Stamped}
 use Rattle.rule.specs.declared.Booking.{Booking}
@@ -22,27 +23,28 @@ ended-in s (refused n) e = refl
 ended-in s (given w) e = rw (le-ltb s (w .closes) (leb-true (w .closes) s e), and-false)
 
 -- a window that has ended is not open
-pub ended-shut : (s : ℕ) (b : Booking) → endedAt s b ≡ true → openAt s b ≡ false
+ended-shut : (s : ℕ) (b : Booking) → endedAt s b ≡ true → openAt s b ≡ false
 unfolding endedAt openAt
 ended-shut s b e = ended-in s (windowIn (b .pil) (b .year)) e
 
+-- what is not live moves to the lowest place with PRF 0 too
 pub moves-not-live : (ls : List Stamped) (seen : Sight) → movesOr ls seen (notLive ls seen) ≡ notLive ls seen
 moves-not-live ls Nothing = refl
 moves-not-live ls Prepare = refl
 moves-not-live ls (Start q) = refl
 
 module _ (s : ℕ) (ls : List Stamped) (b : Booking) where
-  ended-waits : (z : Bool) → endedAt s b ≡ z → cond z Waiting (notLive ls (sightOf s ls b)) ≡ notLive ls (sightOf s ls b)
-  ended-waits true e = rw (sight-shut s ls b (ended-shut s b e))
-  ended-waits false e = refl
+  -- once the window has ended a timer that is not live waits, also by what it sees
+  ended-waits : cond (endedAt s b) Waiting (notLive ls (sightOf s ls b)) ≡ notLive ls (sightOf s ls b)
+  ended-waits = by-test (endedAt s b) (λ e. rw (e, sight-shut s ls b (ended-shut s b e))) (λ e. rw e)
 
   pub next-waiting : nextCopy s ls b Waiting ≡ notLive ls (sightOf s ls b)
   unfolding nextCopy
-  next-waiting = ended-waits (endedAt s b) refl
+  next-waiting = ended-waits
 
   pub next-prepared : nextCopy s ls b Prepared ≡ notLive ls (sightOf s ls b)
   unfolding nextCopy
-  next-prepared = ended-waits (endedAt s b) refl
+  next-prepared = ended-waits
 
 -- ── a free slot ────────────────────────────────────────────────────────────────────────────────────────────────────
 free-copy : (s : ℕ) (ls : List Stamped) (b : Booking) (c : Copy) → held c ≡ false → nextCopy s ls b c ≡ c

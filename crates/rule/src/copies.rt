@@ -1,7 +1,6 @@
 // Moments: the copy's next state, by cases of its present one.
 ghost use mathlib.Core.Path.{_≡_};
-ghost use lib.ListN.{getD};
-ghost use Rattle.rule.specs.Rule.{noLabel, recordingAt, notLive, movesOr, fromRecording, fromRunningOn, held, nextCopy, nextTimer, isLive, sightOf, endedAt};
+ghost use Rattle.rule.specs.Rule.{recordingAt, notLive, movesOr, fromRecording, fromRunningOn, held, nextCopy, nextTimer, isLive, sightOf};
 use crate::Booking;
 use crate::Copy;
 use crate::Sight;
@@ -10,20 +9,10 @@ use crate::Timer;
 use crate::matching::ended_at;
 use crate::matching::matches;
 use crate::matching::sight_of;
-use crate::standing::no_label;
+use crate::standing::label_at;
 
-// How long a copy runs on.
+// 'It runs on while s - v < 30.'
 const RUN_FOR: u64 = 30;
-
-// Past the last place there is no label.
-pub fn label_at(places: [Stamped; 16], p: usize) -> Stamped
-    ensures { λ r. ⌜ r ≡ getD places p noLabel ⌝ }
-{
-    if p < 16 {
-        return places[p];
-    }
-    no_label()
-}
 
 // 'It remembers the MI of the label there.'
 pub fn recording_at(places: [Stamped; 16], p: usize) -> Copy
@@ -33,6 +22,7 @@ pub fn recording_at(places: [Stamped; 16], p: usize) -> Copy
     Copy::Recording { place: p, mi: l.mi }
 }
 
+// 'Not live: the lowest match with PRF 0 makes it recording. Failing that, any match with PRF 1 makes it prepared. Else it waits.'
 fn not_live(places: [Stamped; 16], seen: Sight) -> Copy
     ensures { λ r. ⌜ r ≡ notLive places seen ⌝ }
 {
@@ -43,6 +33,7 @@ fn not_live(places: [Stamped; 16], seen: Sight) -> Copy
     }
 }
 
+// 'The lowest place with a match and PRF 0', or else what is said next.
 fn moves_or(places: [Stamped; 16], seen: Sight, next: Copy) -> Copy
     ensures { λ r. ⌜ r ≡ movesOr places seen next ⌝ }
 {
@@ -53,6 +44,7 @@ fn moves_or(places: [Stamped; 16], seen: Sight, next: Copy) -> Copy
     }
 }
 
+// A copy that is not live moves to the lowest place with PRF 0 too, so `not_live` needs no `moves_or` before it.
 pub fn from_recording(s: u32, places: [Stamped; 16], b: Booking, p: usize, mi: bool) -> Copy
     ensures { λ r. ⌜ r ≡ fromRecording s places b p mi ⌝ }
 {
@@ -68,7 +60,7 @@ pub fn from_recording(s: u32, places: [Stamped; 16], b: Booking, p: usize, mi: b
     moves_or(places, seen, Copy::RunningOn { place: p, since: s })
 }
 
-// 'It runs on while s - v < 30', in 64 bits.
+// As in `stands`, the sum has 64 bits.
 pub fn from_running_on(s: u32, places: [Stamped; 16], b: Booking, p: usize, v: u32) -> Copy
     ensures { λ r. ⌜ r ≡ fromRunningOn s places b p v ⌝ }
 {
@@ -140,6 +132,7 @@ pub fn is_live(c: Copy) -> bool
     }
 }
 
+// A slot that is not free.
 pub fn is_held(c: Copy) -> bool
     ensures { λ r. ⌜ r ≡ held c ⌝ }
 {

@@ -9,6 +9,7 @@ use crate::Stamped;
 use crate::standing::stands;
 use calendar::Validity;
 
+// A booking that is not real has no window.
 pub fn open_at(s: u32, b: Booking) -> bool
     ensures { λ r. ⌜ r ≡ openAt s b ⌝ }
 {
@@ -30,6 +31,7 @@ pub fn ended_at(s: u32, b: Booking) -> bool
     }
 }
 
+// A standing label of the timer's programme, whether or not its window is open.
 fn named(s: u32, b: Booking, l: Stamped) -> bool
     ensures { λ r. ⌜ r ≡ named s b l ⌝ }
 {
@@ -48,7 +50,7 @@ pub fn matches(s: u32, b: Booking, l: Stamped) -> bool
     false
 }
 
-// What the timer would see if its window were open: one look, which stops at the first label with PRF 0.
+// One look at the places, as if the window were open; a label with PRF 0 ends it, since no other can come before it.
 fn look(s: u32, places: [Stamped; 16], b: Booking) -> Sight
     ensures { λ r. ⌜ r ≡ lookOf s places b ⌝ }
 {

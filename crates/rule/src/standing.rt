@@ -1,11 +1,12 @@
 // Standing: what a place holds after a label, and for how long.
 ghost use mathlib.Core.Path.{_≡_};
+ghost use lib.ListN.{getD};
 ghost use Rattle.rule.specs.Rule.{noLabel, stands, stamped, renewed, isContinuation, heardAt};
 use crate::Stamped;
 use label::Label;
 use label::pil::Service;
 
-// How long a label stands.
+// 'A label stands at second s if s - stamp ≤ 5.'
 const STAND_FOR: u64 = 5;
 
 pub fn no_label() -> Stamped
@@ -21,7 +22,17 @@ pub fn no_label() -> Stamped
     }
 }
 
-// The sum has 64 bits, so that a stamp near the end of its range does not wrap.
+// Past the last place there is no label.
+pub fn label_at(places: [Stamped; 16], p: usize) -> Stamped
+    ensures { λ r. ⌜ r ≡ getD places p noLabel ⌝ }
+{
+    if p < 16 {
+        return places[p];
+    }
+    no_label()
+}
+
+// The stamp's side has the sum, in 64 bits, so that nothing wraps and no difference falls below 0.
 pub fn stands(l: Stamped, s: u32) -> bool
     ensures { λ r. ⌜ r ≡ stands s l ⌝ }
 {
@@ -29,6 +40,7 @@ pub fn stands(l: Stamped, s: u32) -> bool
     l.heard & young
 }
 
+// 'An accepted packet at second t puts its label at its place, stamped t.'
 fn stamped(t: u32, l: Label) -> Stamped
     ensures { λ r. ⌜ r ≡ stamped t l ⌝ }
 {
@@ -42,6 +54,7 @@ fn stamped(t: u32, l: Label) -> Stamped
     }
 }
 
+// 'It sets the stamp of a label that stands there to t and does nothing to an empty or lapsed place.'
 fn renewed(t: u32, old: Stamped) -> Stamped
     ensures { λ r. ⌜ r ≡ renewed t old ⌝ }
 {
@@ -72,7 +85,7 @@ fn is_continuation(service: Service) -> bool
     }
 }
 
-// 'A continuation code puts no label'; 'other service codes and no-specific-value stand as labels'.
+// 'A continuation code puts no label.' 'Other service codes and no-specific-value stand as labels.'
 pub fn heard_at(t: u32, l: Label, old: Stamped) -> Stamped
     ensures { λ r. ⌜ r ≡ heardAt t l old ⌝ }
 {

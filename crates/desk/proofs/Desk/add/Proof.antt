@@ -11,6 +11,9 @@ window-of-requires c κs = search needs
 enum-told : tie.Need-enum-told
 enum-told c = search needs
 
+not-added-requires : tie.Need-not-added-requires
+not-added-requires c κs = search needs
+
 enum-known-validity : tie.Need-enum-known-validity
 enum-known-validity c = search needs
 
@@ -19,7 +22,7 @@ book-requires c κs = search needs
 
 returns : tie.Need-returns
 unfolding addOf
-returns c = rw (← c .before .before .window-of .ensures, c .enum-told .given .1) (refl, refl)
+returns c = rw (← c .before .before .before .window-of .ensures, c .before .enum-told .given .1, c .not-added .ensures) (refl, refl)
 
 returns-2 : tie.Need-returns-2
 unfolding addOf
@@ -28,4 +31,11 @@ returns-2 c = let v = c .before .before in rw (← v .before .before .window-of 
 pub add-spec : {M : Type 1} → statement M
 add-spec =
     tie.close
-    (tie.spec window-of-requires enum-told enum-known-validity book-requires returns returns-2)
+    (tie.spec
+    window-of-requires
+    enum-told
+    not-added-requires
+    enum-known-validity
+    book-requires
+    returns
+    returns-2)

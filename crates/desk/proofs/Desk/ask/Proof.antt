@@ -21,14 +21,20 @@ ended-at-requires c κs = search needs
 
 returns-2 : tie.Need-returns-2
 unfolding askOf
-returns-2 c = let b = c .before .before .before in rw (← b .before .before .timer-at .ensures, ← b .is-held .ensures, c .before .before .if1 .left, ← c .before .ended-at .ensures, c .if2 .taken)
+returns-2 c =
+    let b = c .before .before .before in
+    rw (← b .before .before .timer-at .ensures, ← b .is-held .ensures, c .before .before .if1 .left, ← c .before .ended-at .ensures, c .if2 .taken)
 
 state-of-requires : tie.Need-state-of-requires
 state-of-requires c κs = search needs
 
 returns-3 : tie.Need-returns-3
 unfolding askOf
-returns-3 c = let o = c .before .before in let b = o .before .before in rw (← b .before .before .timer-at .ensures, ← b .is-held .ensures, o .before .if1 .left, ← o .ended-at .ensures, c .before .if2 .left) (ap given (c .state-of .ensures))
+returns-3 c =
+    let o = c .before .before in
+    let b = o .before .before in
+    rw (← b .before .before .timer-at .ensures, ← b .is-held .ensures, o .before .if1 .left, ← o .ended-at .ensures, c .before .if2 .left)
+    (ap given (c .state-of .ensures))
 
 pub ask-spec : {M : Type 1} → statement M
 ask-spec =

@@ -1,29 +1,48 @@
 -- Each exit is a row of the table, or the slot that is taken.
-use mathlib.Core.Path.{refl, sym, _∙_}
+use mathlib.Core.Path.{refl}
 use borrow.Author.Tests.{le-leb, lt-leb}
 use Rattle.desk.specs.Calls.{roomIn}
 use borrow.Author.Needs.{needs}
 use Rattle.desk.proofs.Desk.book.Statement.{statement}
 use Rattle.desk.proofs.Desk.book.Tie as tie
 
+not-added-requires : tie.Need-not-added-requires
+not-added-requires c κs = search needs
+
 returns : tie.Need-returns
-returns c = rw (le-leb _ _ (c .if1 .taken)) (refl, refl)
+returns c = rw (le-leb _ _ (c .before .if1 .taken), c .not-added .ensures) (refl, refl)
 
 any-holds-requires : tie.Need-any-holds-requires
 any-holds-requires c κs = search needs
 
+not-added-requires-2 : tie.Need-not-added-requires-2
+not-added-requires-2 c κs = search needs
+
 returns-2 : tie.Need-returns-2
-returns-2 c = let b = c .before in rw (lt-leb _ _ (b .before .before .if1 .left), ← b .any-holds .ensures, c .if2 .taken) (refl, refl)
+returns-2 c =
+    let b = c .before .before in
+    rw (lt-leb _ _ (b .before .before .if1 .left), ← b .any-holds .ensures, c .before .if2 .taken, c .not-added2 .ensures) (refl, refl)
 
 room-requires : tie.Need-room-requires
 room-requires c κs = search needs
 
+not-added-requires-3 : tie.Need-not-added-requires-3
+not-added-requires-3 c κs = search needs
+
 returns-3 : tie.Need-returns-3
 unfolding roomIn
 returns-3 c =
-    let r = c .before in
+    let r = c .before .before in
     let b = r .before .before in
-    rw (lt-leb _ _ (b .before .before .if1 .left), ← b .any-holds .ensures, r .before .if2 .left, ← r .room .ensures .1, le-leb _ _ (c .if3 .taken)) (refl, refl)
+    rw (
+      lt-leb _ _ (b .before .before .if1 .left),
+      ← b .any-holds .ensures,
+      r .before .if2 .left,
+      ← r .room .ensures .1,
+      le-leb _ _ (c .before .if3 .taken),
+      c .not-added3 .ensures,
+    )
+    (refl, refl)
 
 with-timer-requires : tie.Need-with-timer-requires
 with-timer-requires c κs = search needs
@@ -50,10 +69,13 @@ pub book-spec : {M : Type 1} → statement M
 book-spec =
     tie.close
     (tie.spec
+    not-added-requires
     returns
     any-holds-requires
+    not-added-requires-2
     returns-2
     room-requires
+    not-added-requires-3
     returns-3
     with-timer-requires
     moment-requires

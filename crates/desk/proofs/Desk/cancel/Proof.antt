@@ -29,7 +29,8 @@ unfolding cancelOf
 returns-2 c =
     let n = c .before .before in
     let b = n .before .before in
-    rw (← b .before .timer-at .ensures, ← b .is-held .ensures, n .before .if1 .left) (refl, rw (c .moment .ensures, c .before .with-timer .ensures, n .no-timer .ensures))
+    rw (← b .before .timer-at .ensures, ← b .is-held .ensures, n .before .if1 .left)
+    (refl, rw (c .moment .ensures, c .before .with-timer .ensures, n .no-timer .ensures))
 
 pub cancel-spec : {M : Type 1} → statement M
 cancel-spec =

@@ -27,7 +27,8 @@ returns c =
     let k = c .before .before in
     let b = k .before .before in
     let a = b .before .args in
-    rw (gate-shut (a .self) (a .l) (a .self) (a .tuner) (a .time) (b .barred .ensures) _ (k .barred2 .given .1), c .refuse .ensures) (refl, refl)
+    rw (gate-shut (a .self) (a .l) (a .self) (a .tuner) (a .time) (b .barred .ensures) _ (k .barred2 .given .1), c .refuse .ensures)
+    (refl, refl)
 
 returns-2 : tie.Need-returns-2
 unfolding hearing

@@ -26,7 +26,8 @@ returns-3 : tie.Need-returns-3
 unfolding waitOf
 returns-3 c =
     let p = c .before .before in
-    rw (le-ltb _ _ (p .before .before .if1 .left), le-ltb _ _ (p .before .if2 .left)) (ap given (p .pass .ensures .0), c .moment .ensures ∙ ap moment (p .pass .ensures .1))
+    rw (le-ltb _ _ (p .before .before .if1 .left), le-ltb _ _ (p .before .if2 .left))
+    (ap given (p .pass .ensures .0), c .moment .ensures ∙ ap moment (p .pass .ensures .1))
 
 pub wait-spec : {M : Type 1} → statement M
 wait-spec = tie.close (tie.spec returns returns-2 pass-requires moment-requires returns-3)

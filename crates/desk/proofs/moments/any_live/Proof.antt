@@ -42,8 +42,12 @@ loop-less c = search needs
 loop-again : tie.Need-loop-again Inv-loop μ-loop
 loop-again c =
     let b = c .before .before .before .before in
-    let a = b .before .args in
-    (search needs, search needs, b .loop .inv .2 ∙ some-miss liveTimer (a .t1) (b .loop .i) noTimer (search needs) (sym (c .before .is-live .ensures) ∙ c .if1 .left))
+    let a = b .before .args in (
+      search needs,
+      search needs,
+      b .loop .inv .2
+          ∙ some-miss liveTimer (a .t1) (b .loop .i) noTimer (search needs) (sym (c .before .is-live .ensures) ∙ c .if1 .left),
+    )
 
 returns-2 : tie.Need-returns-2 Inv-loop μ-loop
 returns-2 c =

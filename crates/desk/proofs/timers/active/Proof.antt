@@ -1,5 +1,4 @@
 -- Held, and the window has not ended.
-use Rattle.rule.specs.Rule.{held, endedAt}
 use borrow.Author.Needs.{needs}
 use Rattle.desk.proofs.timers.active.Statement.{statement}
 use Rattle.desk.proofs.timers.active.Tie as tie

@@ -1,18 +1,23 @@
 -- The loop's invariant: some slot holds the same timer if one does from slot i on.
-use Prim.Native.Nat.{_≤_, _-_}
+use Prim.Native.Nat.{ℕ, _≤_, _-_}
 use mathlib.Core.Path.{_≡_, refl, sym, _∙_}
 use lib.ListN.{length, drop}
 use borrow.Author.Needs.{needs}
-use mathlib.Core.Bool.{_&&_}
+use mathlib.Core.Bool.{Bool, _&&_}
 use Rattle.rule.specs.Rule.{some}
+use Rattle.rule.specs.declared.Booking.{Booking}
+use Rattle.rule.specs.declared.Timer.{Timer}
 use Rattle.desk.specs.Moments.{noTimer}
 use Rattle.desk.specs.Calls.{active, sameBooking}
 use Rattle.rule.proofs.Search.{some-hit, some-miss, some-none}
 use Rattle.desk.proofs.timers.any_holds.Statement.{statement}
 use Rattle.desk.proofs.timers.any_holds.Tie as tie
 
+abbrev holdsAt : ℕ → Booking → Timer → Bool
+holdsAt s b t = active s t && sameBooking b (t .booking)
+
 abbrev Inv-loop : tie.InvT-loop
-Inv-loop s b timers i₀ i = (i ≤ 16) × (length timers ≡ 16) × (some (λ t. active s t && sameBooking b (t .booking)) timers ≡ some (λ t. active s t && sameBooking b (t .booking)) (drop i timers))
+Inv-loop s b timers i₀ i = (i ≤ 16) × (length timers ≡ 16) × (some (holdsAt s b) timers ≡ some (holdsAt s b) (drop i timers))
 
 abbrev μ-loop : tie.MeasureT-loop
 μ-loop s b timers i₀ i = 16 - i
@@ -33,7 +38,7 @@ returns : tie.Need-returns Inv-loop μ-loop
 returns c =
     let b = c .before .before .before .before in
     let a = b .before .args in
-    sym (b .loop .inv .2 ∙ some-hit (λ t. active (a .s) t && sameBooking (a .b) (t .booking)) (a .t2) (b .loop .i) noTimer (search needs) (sym (c .before .holds .ensures) ∙ c .if1 .taken))
+    sym (b .loop .inv .2 ∙ some-hit (holdsAt (a .s) (a .b)) (a .t2) (b .loop .i) noTimer (search needs) (sym (c .before .holds .ensures) ∙ c .if1 .taken))
 
 add-i : tie.Need-add-i Inv-loop μ-loop
 add-i c = search needs
@@ -44,14 +49,18 @@ loop-less c = search needs
 loop-again : tie.Need-loop-again Inv-loop μ-loop
 loop-again c =
     let b = c .before .before .before .before in
-    let a = b .before .args in
-    (search needs, search needs, b .loop .inv .2 ∙ some-miss (λ t. active (a .s) t && sameBooking (a .b) (t .booking)) (a .t2) (b .loop .i) noTimer (search needs) (sym (c .before .holds .ensures) ∙ c .if1 .left))
+    let a = b .before .args in (
+      search needs,
+      search needs,
+      b .loop .inv .2
+          ∙ some-miss (holdsAt (a .s) (a .b)) (a .t2) (b .loop .i) noTimer (search needs) (sym (c .before .holds .ensures) ∙ c .if1 .left),
+    )
 
 returns-2 : tie.Need-returns-2 Inv-loop μ-loop
 returns-2 c =
     let b = c .before in
     let a = b .before .args in
-    sym (b .loop .inv .2 ∙ some-none (λ t. active (a .s) t && sameBooking (a .b) (t .booking)) (a .t2) (b .loop .i) (search needs))
+    sym (b .loop .inv .2 ∙ some-none (holdsAt (a .s) (a .b)) (a .t2) (b .loop .i) (search needs))
 
 pub any-holds-spec : {M : Type 1} → statement M
 any-holds-spec =

@@ -16,7 +16,9 @@ recording-at-requires c κs = search needs
 
 returns : tie.Need-returns
 unfolding fromRecording
-returns c = let b = c .before .before in rw (← b .before .label-at .ensures, ← b .matches .ensures, c .before .if1 .taken) (c .recording-at .ensures)
+returns c =
+    let b = c .before .before in
+    rw (← b .before .label-at .ensures, ← b .matches .ensures, c .before .if1 .taken) (c .recording-at .ensures)
 
 sight-of-requires : tie.Need-sight-of-requires
 sight-of-requires c κs = search needs
@@ -29,7 +31,8 @@ unfolding fromRecording
 returns-2 c =
     let v = c .before .before in
     let b = v .before .before in
-    rw (← b .before .label-at .ensures, ← b .matches .ensures, v .before .if1 .left, ← v .sight-of .ensures, c .before .if2 .taken, moves-not-live) (c .not-live .ensures)
+    rw (← b .before .label-at .ensures, ← b .matches .ensures, v .before .if1 .left, ← v .sight-of .ensures, c .before .if2 .taken, moves-not-live)
+    (c .not-live .ensures)
 
 moves-or-requires : tie.Need-moves-or-requires
 moves-or-requires c κs = search needs
@@ -39,7 +42,8 @@ unfolding fromRecording
 returns-3 c =
     let v = c .before .before in
     let b = v .before .before in
-    rw (← b .before .label-at .ensures, ← b .matches .ensures, v .before .if1 .left, ← v .sight-of .ensures, c .before .if2 .left) (c .moves-or .ensures)
+    rw (← b .before .label-at .ensures, ← b .matches .ensures, v .before .if1 .left, ← v .sight-of .ensures, c .before .if2 .left)
+    (c .moves-or .ensures)
 
 pub from-recording-spec : {M : Type 1} → statement M
 from-recording-spec =

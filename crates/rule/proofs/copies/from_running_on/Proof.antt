@@ -18,14 +18,20 @@ moves-or-requires c κs = search needs
 
 returns : tie.Need-returns
 unfolding fromRunningOn
-returns c = let v = c .before .before in let a = v .before .args in rw (← below (a .s) (a .v) runFor (omega arith), c .before .if1 .taken, ← v .sight-of .ensures) (c .moves-or .ensures)
+returns c =
+    let v = c .before .before in
+    let a = v .before .args in
+    rw (← below (a .s) (a .v) runFor (omega arith), c .before .if1 .taken, ← v .sight-of .ensures) (c .moves-or .ensures)
 
 not-live-requires : tie.Need-not-live-requires
 not-live-requires c κs = search needs
 
 returns-2 : tie.Need-returns-2
 unfolding fromRunningOn
-returns-2 c = let v = c .before .before in let a = v .before .args in rw (← below (a .s) (a .v) runFor (omega arith), c .before .if1 .left, ← v .sight-of .ensures, moves-not-live) (c .not-live .ensures)
+returns-2 c =
+    let v = c .before .before in
+    let a = v .before .args in
+    rw (← below (a .s) (a .v) runFor (omega arith), c .before .if1 .left, ← v .sight-of .ensures, moves-not-live) (c .not-live .ensures)
 
 pub from-running-on-spec : {M : Type 1} → statement M
 from-running-on-spec =

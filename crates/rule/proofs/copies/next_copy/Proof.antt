@@ -54,7 +54,9 @@ returns-4 c = rw (c .before .before .before .c .given .1, ← c .before .ended-a
 
 returns-5 : tie.Need-returns-5
 unfolding nextCopy
-returns-5 c = let b = c .before .before in rw (b .before .before .c .given .1, ← b .ended-at .ensures, c .before .if1 .left) (c .from-recording .ensures)
+returns-5 c =
+    let b = c .before .before in
+    rw (b .before .before .c .given .1, ← b .ended-at .ensures, c .before .if1 .left) (c .from-recording .ensures)
 
 returns-6 : tie.Need-returns-6
 unfolding nextCopy
@@ -62,7 +64,9 @@ returns-6 c = rw (c .before .before .before .c2 .given .1, ← c .before .ended-
 
 returns-7 : tie.Need-returns-7
 unfolding nextCopy
-returns-7 c = let b = c .before .before in rw (b .before .before .c2 .given .1, ← b .ended-at2 .ensures, c .before .if2 .left) (c .from-running-on .ensures)
+returns-7 c =
+    let b = c .before .before in
+    rw (b .before .before .c2 .given .1, ← b .ended-at2 .ensures, c .before .if2 .left) (c .from-running-on .ensures)
 
 pub next-copy-spec : {M : Type 1} → statement M
 next-copy-spec =

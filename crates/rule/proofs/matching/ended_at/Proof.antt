@@ -1,5 +1,4 @@
 -- By whether the booking is real.
-use Rattle.calendar.specs.Calendar.{validityAnswer}
 use Rattle.rule.specs.Rule.{endedAt}
 use borrow.Author.Needs.{needs}
 use Rattle.rule.proofs.matching.ended_at.Statement.{statement}

@@ -1,5 +1,4 @@
 -- By whether the booking is real.
-use Rattle.calendar.specs.Calendar.{validityAnswer}
 use Rattle.rule.specs.Rule.{openAt}
 use borrow.Author.Needs.{needs}
 use Rattle.rule.proofs.matching.open_at.Statement.{statement}

@@ -15,14 +15,18 @@ renewed-requires c κs = search needs
 
 returns : tie.Need-returns
 unfolding heardAt
-returns c = let b = c .before .before in rw (← b .before .service-of .ensures, ← b .is-continuation .ensures, c .before .if1 .taken) (c .renewed .ensures)
+returns c =
+    let b = c .before .before in
+    rw (← b .before .service-of .ensures, ← b .is-continuation .ensures, c .before .if1 .taken) (c .renewed .ensures)
 
 stamped-requires : tie.Need-stamped-requires
 stamped-requires c κs = search needs
 
 returns-2 : tie.Need-returns-2
 unfolding heardAt
-returns-2 c = let b = c .before .before in rw (← b .before .service-of .ensures, ← b .is-continuation .ensures, c .before .if1 .left) (c .stamped .ensures)
+returns-2 c =
+    let b = c .before .before in
+    rw (← b .before .service-of .ensures, ← b .is-continuation .ensures, c .before .if1 .left) (c .stamped .ensures)
 
 pub heard-at-spec : {M : Type 1} → statement M
 heard-at-spec =
