@@ -10,6 +10,9 @@ use sheet::Closed;
 use sheet::Fed;
 use sheet::Sheet;
 
+// What a piece of 4,096 bytes may print.
+const SHARE: usize = 32768;
+
 // A piece that finds room is taken, and stays within its share of it.
 fn taken(sheet: Sheet, piece: &[u8], out: &mut [u8], at: usize) -> Fed
     requires { ⌜ at + longest * length (now piece) ≤ length (now out) ⌝ }
@@ -60,12 +63,12 @@ struct Kept {
     at: usize,
 }
 
-// A buffer that may not hold what another piece prints is written out, and begun anew.
+// A buffer that might not hold what another piece prints is written out, and begun anew.
 fn flush(out: &[u8], at: usize) -> Kept
     requires { ⌜ at ≤ length (now out) ⌝ }
     ensures { λ r. ⌜ r .at ≤ longest * 4096 ⌝ }
 {
-    if 32768 < at {
+    if SHARE < at {
         let written = write(out, at);
         return Kept { written, at: 0 };
     }
@@ -81,6 +84,7 @@ fn left(turns: u64, going: bool) -> u64
 }
 
 // Nothing says that the input ends, so the loop counts its turns down, from a number that no run uses up.
+// Output that cannot be written ends the program.
 fn main() {
     let mut out = io::large_buffer();
     let mut sheet = Sheet::new();

@@ -1,13 +1,10 @@
 -- The numbers of an item, by the places of its bytes.
 use Prim.Native.Nat.{ℕ, zero, suc, _+_, _*_, _≤_}
-use mathlib.Core.Path.{_≡_, refl, sym, ap, _∙_}
+use mathlib.Core.Path.{_≡_, refl, ap}
 use mathlib.Core.List.{List, [], _∷_}
-use native.Mathlib.Nat.{add-suc, suc-add}
 use native.Mathlib.Omega.{arith}
 use lib.ListN.{length, take, drop, getD, length-drop}
 use lib.Seq.{drop-cons, take-all}
-use Rattle.hamming.specs.Answer.{Answer}
-use Rattle.rule.specs.declared.Booking.{Booking}
 use Rattle.desk.specs.declared.Desk.{Desk}
 use Rattle.desk.specs.Calls.{packetOf}
 use Rattle.sheet.specs.Sheet.{numberOf, bookingIn, packetIn}

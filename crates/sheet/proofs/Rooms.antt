@@ -1,5 +1,5 @@
 -- How long what is printed is: no byte prints more than `longest`, so a piece that finds room is taken and stays within its share.
-use Prim.Native.Nat.{ℕ, suc, _+_, _-_, _*_, _/_, _≤_}
+use Prim.Native.Nat.{ℕ, _+_, _-_, _*_, _/_, _≤_}
 use mathlib.Core.Path.{_≡_, refl, sym}
 use mathlib.Core.Bool.{Bool, true, false, cond}
 use mathlib.Core.List.{List, [], _∷_, _++_}
@@ -15,8 +15,6 @@ use Rattle.desk.specs.Numbers.{saidBy}
 use Rattle.sheet.specs.declared.Stage.{Stage}
 use Rattle.sheet.specs.declared.Stage.the-variants.{TimerCount, Timers, PacketCount, Packets, Played, LeftOver}
 use Rattle.sheet.specs.declared.Sheet.{Sheet}
-use Rattle.sheet.specs.declared.Fed.{Fed}
-use Rattle.sheet.specs.declared.Closed.{Closed}
 use Rattle.sheet.specs.Sheet.{digit, decimal, space, lineFeed, timerLine, packetLine, bookingIn, packetIn, timerTold, packetTold, packetLeft}
 use Rattle.sheet.specs.Pieces.{need, told, holding, isWhole, itemOf, toldBy, afterByte, byteTold, pieceTold, closing, endTold, longest, fedBy, closedBy}
 

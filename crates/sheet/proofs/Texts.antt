@@ -6,15 +6,13 @@ use native.Mathlib.Nat.{add-zero, add-suc, suc-add}
 use native.Mathlib.Omega.{arith}
 use lib.ListN.{length, set, length-append}
 use lib.Seq.{sets}
+use Rattle.sheet.specs.Stores.{Stored}
 
 pub sets-append : (l : List ℕ) (i : ℕ) (x y : List ℕ) → sets l i (x ++ y) ≡ sets (sets l i x) (i + length x) y
 sets-append l i [] y = rw add-zero
 sets-append l i (a ∷ x) y = rw (add-suc, ← suc-add) (sets-append (set l i a) (suc i) x y)
 
--- what a writer promises: the text is stored from place at on, and the place after it answered
-abbrev pub Stored : List ℕ → ℕ → List ℕ → ℕ → List ℕ → Type 0
-Stored out at text r after = (r ≡ at + length text) × (after ≡ sets out at text)
-
+-- a text, and then another
 pub then : (out : List ℕ) (at : ℕ) (x y : List ℕ) {r s : ℕ} {mid after : List ℕ} →
     Stored out at x r mid → Stored mid r y s after → Stored out at (x ++ y) s after
 then out at x y {r} {s} p q =

@@ -1,7 +1,6 @@
 -- What is claimed of a sheet. Proved in proofs/Proved.antt.
 use Prim.Native.Nat.{ℕ, _+_, _≤_, _<_}
 use mathlib.Core.Path.{_≡_}
-use mathlib.Core.Bool.{true, false}
 use mathlib.Core.List.{List, [], _∷_, _++_}
 use lib.ListN.{length}
 use Rattle.hamming.specs.Answer.{Unique, number, given}

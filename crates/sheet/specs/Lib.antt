@@ -1,3 +1,4 @@
 pub mod Sheet
 pub mod Pieces
+pub mod Stores
 pub mod Laws

@@ -1,8 +1,8 @@
 -- A sheet as it is played, byte by byte: what one more byte prints and leaves, and what the input's end prints.
-use Prim.Native.Nat.{ℕ, zero, suc, _+_, _-_, _*_}
-use mathlib.Core.Bool.{Bool, true, false, cond, not}
+use Prim.Native.Nat.{ℕ, _+_, _-_, _*_}
+use mathlib.Core.Bool.{Bool, true, false, cond}
 use mathlib.Core.List.{List, [], _∷_, _++_}
-use lib.Dec.{ltb, leb, eqb}
+use lib.Dec.{leb, eqb}
 use lib.ListN.{length, take, set, replicate}
 use lib.Seq.{sets}
 use Rattle.desk.specs.declared.Desk.{Desk}

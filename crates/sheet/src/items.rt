@@ -130,6 +130,7 @@ fn packets_left(n: u32) -> Stage
     Stage::Packets(n)
 }
 
+// None is left after none, too.
 fn one_less(n: u32) -> u32
     ensures { λ r. ⌜ r ≡ n - 1 ⌝ }
 {
@@ -152,7 +153,7 @@ pub(crate) fn stage_after(stage: Stage, held: [u8; 47]) -> Stage
     }
 }
 
-// Timers and packets move the desk and print a line.
+// A timer and a packet move the desk and print a line; the other items do neither.
 pub(crate) fn act(desk: Desk, stage: Stage, held: [u8; 47], out: &mut [u8], at: usize) -> Left
     requires { ⌜ at + longest ≤ length (now out) ⌝ }
     ensures { λ r. ⌜ (let i = take (need stage) held in

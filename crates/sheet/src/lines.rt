@@ -3,15 +3,15 @@ ghost use Prim.Native.Nat.{_+_, _<_, _≤_};
 ghost use mathlib.Core.Path.{_≡_};
 ghost use mathlib.Core.List.{_∷_, [], _++_};
 ghost use lib.ListN.{length};
-ghost use lib.Seq.{sets};
 ghost use Rattle.desk.specs.Numbers.{addAnswer};
 ghost use Rattle.sheet.specs.Sheet.{digit, decimal, space, lineFeed, timerLine, packetLine};
 ghost use Rattle.sheet.specs.Pieces.{longest};
+ghost use Rattle.sheet.specs.Stores.{Stored};
 use desk::AddAnswer;
 
 fn put(out: &mut [u8], at: usize, b: u8) -> usize
     requires { ⌜ at < length (now out) ⌝ }
-    ensures { λ r. ⌜ (r ≡ at + length (b ∷ [])) × (now (out .exit) ≡ sets (now (out .entry)) at (b ∷ [])) ⌝ }
+    ensures { λ r. ⌜ Stored (now (out .entry)) at (b ∷ []) r (now (out .exit)) ⌝ }
 {
     out[at] = b;
     at + 1
@@ -25,7 +25,7 @@ fn digit(n: usize) -> u8
 
 fn put_decimal(out: &mut [u8], at: usize, n: usize) -> usize
     requires { ⌜ at + 2 ≤ length (now out) ⌝ }
-    ensures { λ r. ⌜ (r ≡ at + length (decimal n)) × (now (out .exit) ≡ sets (now (out .entry)) at (decimal n)) ⌝ }
+    ensures { λ r. ⌜ Stored (now (out .entry)) at (decimal n) r (now (out .exit)) ⌝ }
 {
     if n < 10 {
         return put(out, at, digit(n));
@@ -37,8 +37,7 @@ fn put_decimal(out: &mut [u8], at: usize, n: usize) -> usize
 // A line's letter and the space after it.
 fn open_line(out: &mut [u8], at: usize, letter: u8) -> usize
     requires { ⌜ at + 2 ≤ length (now out) ⌝ }
-    ensures { λ r. ⌜ (r ≡ at + length (letter ∷ space ∷ []))
-        × (now (out .exit) ≡ sets (now (out .entry)) at (letter ∷ space ∷ [])) ⌝ }
+    ensures { λ r. ⌜ Stored (now (out .entry)) at (letter ∷ space ∷ []) r (now (out .exit)) ⌝ }
 {
     let next = put(out, at, letter);
     put(out, next, b' ')
@@ -47,8 +46,7 @@ fn open_line(out: &mut [u8], at: usize, letter: u8) -> usize
 // A line's last number, and its end.
 fn end_line(out: &mut [u8], at: usize, n: usize) -> usize
     requires { ⌜ at + 3 ≤ length (now out) ⌝ }
-    ensures { λ r. ⌜ (r ≡ at + length (decimal n ++ (lineFeed ∷ [])))
-        × (now (out .exit) ≡ sets (now (out .entry)) at (decimal n ++ (lineFeed ∷ []))) ⌝ }
+    ensures { λ r. ⌜ Stored (now (out .entry)) at (decimal n ++ (lineFeed ∷ [])) r (now (out .exit)) ⌝ }
 {
     let next = put_decimal(out, at, n);
     put(out, next, b'\n')
@@ -56,8 +54,7 @@ fn end_line(out: &mut [u8], at: usize, n: usize) -> usize
 
 fn refusal(out: &mut [u8], at: usize, n: usize) -> usize
     requires { ⌜ at + 4 ≤ length (now out) ⌝ }
-    ensures { λ r. ⌜ (r ≡ at + length (33 ∷ decimal n ++ (lineFeed ∷ [])))
-        × (now (out .exit) ≡ sets (now (out .entry)) at (33 ∷ decimal n ++ (lineFeed ∷ []))) ⌝ }
+    ensures { λ r. ⌜ Stored (now (out .entry)) at (33 ∷ decimal n ++ (lineFeed ∷ [])) r (now (out .exit)) ⌝ }
 {
     let next = put(out, at, b'!');
     end_line(out, next, n)
@@ -66,8 +63,7 @@ fn refusal(out: &mut [u8], at: usize, n: usize) -> usize
 // '`T slot` or `T !number` per timer.'
 pub(crate) fn timer_line(out: &mut [u8], at: usize, a: AddAnswer) -> usize
     requires { ⌜ at + longest ≤ length (now out) ⌝ }
-    ensures { λ r. ⌜ (r ≡ at + length (timerLine (addAnswer a)))
-        × (now (out .exit) ≡ sets (now (out .entry)) at (timerLine (addAnswer a))) ⌝ }
+    ensures { λ r. ⌜ Stored (now (out .entry)) at (timerLine (addAnswer a)) r (now (out .exit)) ⌝ }
 {
     let next = open_line(out, at, b'T');
     match a {
@@ -82,8 +78,7 @@ pub(crate) fn timer_line(out: &mut [u8], at: usize, a: AddAnswer) -> usize
 // '`P answer live` per packet.'
 pub(crate) fn packet_line(out: &mut [u8], at: usize, answer: u32, live: u32) -> usize
     requires { ⌜ at + longest ≤ length (now out) ⌝ }
-    ensures { λ r. ⌜ (r ≡ at + length (packetLine answer live))
-        × (now (out .exit) ≡ sets (now (out .entry)) at (packetLine answer live)) ⌝ }
+    ensures { λ r. ⌜ Stored (now (out .entry)) at (packetLine answer live) r (now (out .exit)) ⌝ }
 {
     let number = open_line(out, at, b'P');
     let gap = put_decimal(out, number, answer as usize);
@@ -94,8 +89,7 @@ pub(crate) fn packet_line(out: &mut [u8], at: usize, answer: u32, live: u32) -> 
 // 'Then `Z live`', or `X live` in its place.
 pub(crate) fn last_line(out: &mut [u8], at: usize, letter: u8, live: u32) -> usize
     requires { ⌜ at + longest ≤ length (now out) ⌝ }
-    ensures { λ r. ⌜ (r ≡ at + length (letter ∷ space ∷ decimal live ++ (lineFeed ∷ [])))
-        × (now (out .exit) ≡ sets (now (out .entry)) at (letter ∷ space ∷ decimal live ++ (lineFeed ∷ []))) ⌝ }
+    ensures { λ r. ⌜ Stored (now (out .entry)) at (letter ∷ space ∷ decimal live ++ (lineFeed ∷ [])) r (now (out .exit)) ⌝ }
 {
     let next = open_line(out, at, letter);
     end_line(out, next, live as usize)

@@ -1,15 +1,15 @@
 // A sheet, fed piece by piece, and closed.
-ghost use Prim.Native.Nat.{_+_, _*_, _≤_};
-ghost use mathlib.Core.Bool.{true};
+ghost use Prim.Native.Nat.{ℕ, _+_, _*_, _≤_};
+ghost use mathlib.Core.Bool.{true, false};
 ghost use mathlib.Core.Path.{_≡_};
-ghost use mathlib.Core.List.{_∷_, [], _++_};
+ghost use mathlib.Core.List.{List, _∷_, [], _++_};
 ghost use lib.Dec.{leb};
 ghost use lib.ListN.{length, set};
 ghost use lib.Seq.{sets};
 ghost use Rattle.desk.specs.declared.Desk.{Desk};
 ghost use Rattle.desk.specs.Moments.{liveCount};
 ghost use Rattle.sheet.specs.Sheet.{decimal, space, lineFeed};
-ghost use Rattle.sheet.specs.Pieces.{need, afterByte, byteTold, afterPiece, pieceTold, closing, blank, longest, fedBy, outAfter, closedBy, outClosed};
+ghost use Rattle.sheet.specs.Pieces.{need, deskAfter, told, afterPiece, pieceTold, closing, blank, longest, fedBy, outAfter, closedBy, outClosed};
 use crate::Closed;
 use crate::Fed;
 use crate::Sheet;
@@ -19,7 +19,7 @@ use crate::items::stage_after;
 use crate::lines::last_line;
 use desk::Desk;
 
-// Whether n bytes surely find room from place at on, where there are room places.
+// Whether what n bytes print surely fits from place at on, where there are room places. No sum here can wrap.
 fn has_room(room: usize, at: usize, n: usize) -> bool
     ensures { λ r. ⌜ r ≡ leb (at + longest * n) room ⌝ }
 {
@@ -43,6 +43,21 @@ fn last_place(stage: Stage) -> usize
     }
 }
 
+// Whether an item moves the desk and prints: where not, it does neither.
+fn acts(stage: Stage) -> bool
+    ensures { λ r. ⌜ (r ≡ false → (i : List ℕ) (d : Desk) → (deskAfter stage i d ≡ d) × (told stage i d ≡ [])) ⌝ }
+{
+    match stage {
+        Stage::TimerCount => false,
+        Stage::Timers(_) => true,
+        Stage::PacketCount => false,
+        Stage::Packets(_) => true,
+        Stage::Played => false,
+        Stage::LeftOver => false,
+    }
+}
+
+// A byte past the last place is not held: no sheet that is fed from the start comes to that.
 fn hold(held: [u8; 47], have: usize, b: u8) -> [u8; 47]
     ensures { λ r. ⌜ r ≡ set held have b ⌝ }
 {
@@ -54,7 +69,7 @@ fn hold(held: [u8; 47], have: usize, b: u8) -> [u8; 47]
     held
 }
 
-// 'Or has a byte left over.'
+// 'Input that is short, a count included, or has a byte left over ends with `X live` in place of `Z live`.'
 fn letter(stage: Stage) -> u8
     ensures { λ r. ⌜ ((d : Desk) → closing stage d ≡ r ∷ space ∷ decimal (liveCount d) ++ (lineFeed ∷ [])) ⌝ }
 {
@@ -68,72 +83,55 @@ fn letter(stage: Stage) -> u8
     }
 }
 
-// The sheet that bytes leave, and the place after what they printed.
-struct Step {
-    sheet: Sheet,
-    at: usize,
-}
-
 impl Sheet {
     pub fn new() -> Sheet
         ensures { λ r. ⌜ r ≡ blank ⌝ }
     {
         let desk = Desk::new();
         Sheet {
-            desk: desk,
+            desk,
             stage: Stage::TimerCount,
             have: 0,
             held: [0; 47],
         }
     }
 
-    // A byte that makes the item whole: the item takes effect.
-    fn complete(self, b: u8, out: &mut [u8], at: usize) -> Step
-        requires { ⌜ (need (self .stage) ≤ self .have + 1) × (at + longest ≤ length (now out)) ⌝ }
-        ensures { λ r. ⌜ (r ≡ record { sheet = afterByte b self; at = at + length (byteTold b self) })
-            × (now (out .exit) ≡ sets (now (out .entry)) at (byteTold b self)) ⌝ }
-    {
-        let desk = self.desk;
-        let stage = self.stage;
-        let before = self.held;
-        let held = hold(before, self.have, b);
-        let left = act(desk, stage, held, out, at);
-        let moved = left.desk;
-        let next = stage_after(stage, held);
-        let sheet = Sheet {
-            desk: moved,
-            stage: next,
-            have: 0,
-            held: held,
-        };
-        Step { sheet, at: left.at }
-    }
-
-    // Every byte of a piece that finds room. A byte that leaves its item short is stored in place: only whole items move the desk.
+    // Every byte of a piece that finds room. The desk, which is large, moves only where an item moves it.
     fn play(self, piece: &[u8], out: &mut [u8], at: usize) -> Fed
         requires { ⌜ at + longest * length (now piece) ≤ length (now out) ⌝ }
         ensures { λ r. ⌜ (r ≡ record { taken = true; sheet = afterPiece (now (piece .entry)) self; at = at + length (pieceTold (now (piece .entry)) self) })
             × (now (out .exit) ≡ sets (now (out .entry)) at (pieceTold (now (piece .entry)) self)) ⌝ }
     {
-        let mut sheet = self;
+        let mut desk = self.desk;
+        let mut stage = self.stage;
+        let mut have = self.have;
+        let mut held = self.held;
         let mut end = at;
         let mut i: usize = 0;
         while i < piece.len() {
             let b = piece[i];
-            let stage = sheet.stage;
-            let have = sheet.have;
-            let last = last_place(stage);
-            if have < last {
-                sheet.held[have] = b;
-                sheet.have = have + 1;
+            if have < last_place(stage) {
+                held[have] = b;
+                have += 1;
             } else {
-                let step = sheet.complete(b, out, end);
-                let next = step.sheet;
-                sheet = next;
-                end = step.at;
+                held = hold(held, have, b);
+                have = 0;
+                if acts(stage) {
+                    let left = act(desk, stage, held, out, end);
+                    let moved = left.desk;
+                    desk = moved;
+                    end = left.at;
+                }
+                stage = stage_after(stage, held);
             }
             i += 1;
         }
+        let sheet = Sheet {
+            desk,
+            stage,
+            have,
+            held,
+        };
         Fed {
             taken: true,
             sheet,
@@ -141,6 +139,7 @@ impl Sheet {
         }
     }
 
+    // A piece is taken where what it prints surely fits; else nothing changes.
     pub fn feed(self, piece: &[u8], out: &mut [u8], at: usize) -> Fed
         ensures { λ r. ⌜ (r ≡ fedBy (now (piece .entry)) (now (out .entry)) at self)
             × (now (out .exit) ≡ outAfter (now (piece .entry)) (now (out .entry)) at self) ⌝ }
@@ -152,11 +151,11 @@ impl Sheet {
         Fed {
             taken: false,
             sheet: self,
-            at: at,
+            at,
         }
     }
 
-    // The input's end: the last line.
+    // The input's end prints the last line, where it fits.
     pub fn close(self, out: &mut [u8], at: usize) -> Closed
         ensures { λ r. ⌜ (r ≡ closedBy (now (out .entry)) at self) × (now (out .exit) ≡ outClosed (now (out .entry)) at self) ⌝ }
     {
@@ -171,9 +170,6 @@ impl Sheet {
                 at: next,
             };
         }
-        Closed {
-            taken: false,
-            at: at,
-        }
+        Closed { taken: false, at }
     }
 }

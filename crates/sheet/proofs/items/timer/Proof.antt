@@ -1,8 +1,7 @@
 -- `timer`: the numbers of the six bytes, what the desk answers to them, and its line.
 use borrow.Author.Needs.{needs}
-use mathlib.Core.Path.{_≡_, refl, sym, ap, _∙_}
+use mathlib.Core.Path.{_≡_, refl}
 use lib.ListN.{take, getD}
-use Rattle.rule.specs.declared.Booking.{Booking}
 use Rattle.sheet.specs.Sheet.{bookingIn, timerTold, timerLeft}
 use Rattle.sheet.proofs.Numbers.{booking}
 use Rattle.sheet.proofs.items.timer.Statement.{statement}

@@ -1,9 +1,7 @@
 -- `put_decimal` stores one digit below 10, and two from 10 on.
 use borrow.Author.Needs.{needs}
 use borrow.Author.Tests.{lt-ltb, le-ltb}
-use Prim.Native.Nat.{_/_}
 use mathlib.Core.List.{[], _∷_}
-use lib.Dec.{ltb}
 use Rattle.sheet.specs.Sheet.{digit, decimal}
 use Rattle.sheet.proofs.Texts.{then}
 use Rattle.sheet.proofs.lines.put_decimal.Statement.{statement}

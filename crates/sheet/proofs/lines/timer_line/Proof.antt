@@ -3,7 +3,8 @@ use borrow.Author.Needs.{needs}
 use Prim.Native.Nat.{ℕ}
 use mathlib.Core.List.{List, [], _∷_, _++_}
 use Rattle.sheet.specs.Sheet.{space, decimal, lineFeed}
-use Rattle.sheet.proofs.Texts.{Stored, then}
+use Rattle.sheet.specs.Stores.{Stored}
+use Rattle.sheet.proofs.Texts.{then}
 use Rattle.sheet.proofs.lines.timer_line.Statement.{statement}
 use Rattle.sheet.proofs.lines.timer_line.Tie as tie
 
