@@ -1,0 +1,11 @@
+//! Only the program that times packets links the archive of `rt staticlib probe` and libzvbi: the others build without them.
+use std::path::Path;
+
+fn main() {
+    let here = std::env::var("CARGO_MANIFEST_DIR").unwrap();
+    let probe = Path::new(&here).join("../target/staticlib/libprobe.a");
+    println!("cargo:rerun-if-changed=build.rs");
+    println!("cargo:rerun-if-changed={}", probe.display());
+    println!("cargo:rustc-link-arg-bin=packets={}", probe.display());
+    println!("cargo:rustc-link-arg-bin=packets=-lzvbi");
+}
