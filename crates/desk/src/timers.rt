@@ -37,8 +37,8 @@ pub(crate) fn no_timer() -> Timer
     ensures { λ r. ⌜ r ≡ noTimer ⌝ }
 {
     let b = Booking {
-        cni: 0,
         pil: 0,
+        cni: 0,
         year: 0,
     };
     Timer {
@@ -155,7 +155,7 @@ impl Desk {
         match validity {
             Validity::Refused => self.not_added(AddAnswer::NotReal),
             Validity::Given(w) => {
-                let b = Booking { cni, pil, year };
+                let b = Booking { pil, cni, year };
                 self.book(b, w)
             }
         }

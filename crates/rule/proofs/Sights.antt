@@ -3,19 +3,31 @@ use Prim.Native.Nat.{ℕ, suc, _+_, _≤_, _<_}
 use mathlib.Core.Path.{_≡_, refl, _∙_}
 use mathlib.Core.Bool.{Bool, true, false, cond, not, _&&_, _||_, and-true, and-false, or-assoc, or-false}
 use mathlib.Core.List.{List, [], _∷_}
+use lib.Dec.{eqb}
 use lib.ListN.{length, getD, drop}
+use native.Mathlib.Nat.{zero-add}
 use Rattle.calendar.proofs.Cases.{by-test}
-use Rattle.rule.specs.Rule.{noLabel, nowhere, lowestFrom, some, sightBy, openAt, matches, sightOf}
-use Rattle.rule.specs.Look.{named, lookOf}
+use Rattle.rule.specs.Rule.{noLabel, stands, nowhere, lowestFrom, some, sightBy, openAt, matches, sightOf}
+use Rattle.rule.specs.Look.{named, firstWith, lookOf}
 use Rattle.rule.specs.declared.Stamped.{Stamped}
 use Rattle.rule.specs.declared.Booking.{Booking}
 use Rattle.rule.specs.declared.Sight.{Sight}
 use Rattle.rule.specs.declared.Sight.the-variants.{Nothing, Start}
-use Rattle.rule.proofs.Search.{lowest-hit, lowest-miss, lowest-none, some-more, some-none}
+use Rattle.rule.proofs.Search.{lowest-hit, lowest-miss, lowest-none, lowest-past, some-more, some-none, some-past}
 
 pub match-named : (s : ℕ) (b : Booking) (l : Stamped) → matches s b l ≡ (named s b l && openAt s b)
 unfolding matches named
 match-named s b l = refl
+
+-- the PIL may be compared first
+module _ (s : ℕ) (b : Booking) (l : Stamped) where
+  pub named-pil : eqb (l .pil) (b .pil) ≡ true → named s b l ≡ (stands s l && eqb (l .cni) (b .cni))
+  unfolding named
+  named-pil e = rw (e, and-true)
+
+  pub named-other : eqb (l .pil) (b .pil) ≡ false → named s b l ≡ false
+  unfolding named
+  named-other e = rw (e, and-false)
 
 -- a label that is named and has not PRF 0 has PRF 1
 prepares : (a p : Bool) → (a && not p) ≡ false → a ≡ (a && p)
@@ -30,9 +42,16 @@ module _ (s : ℕ) (b : Booking) (ls : List Stamped) where
   seenFrom i p =
       sightBy (lowestFrom (λ l. named s b l && not (l .prf)) i (drop i ls)) (p || some (λ l. named s b l && l .prf) (drop i ls))
 
-  pub seen-all : lookOf s ls b ≡ seenFrom 0 false
-  unfolding lookOf
-  seen-all = refl
+  -- a look misses nothing before the first place with the PIL
+  pub seen-first : lookOf s ls b ≡ seenFrom (firstWith ls (b .pil)) false
+  unfolding lookOf firstWith
+  seen-first =
+      let f : Stamped → Bool = λ l. eqb (l .pil) (b .pil) in
+      rw (
+        lowest-past f (λ l. named s b l && not (l .prf)) (λ l e. rw (named-other s b l e)) 0 ls,
+        some-past f (λ l. named s b l && l .prf) (λ l e. rw (named-other s b l e)) ls,
+        zero-add,
+      )
 
   module _ (i : ℕ) (p : Bool) where
     pub seen-none : length ls ≤ i → seenFrom i p ≡ sightBy nowhere p
@@ -90,3 +109,7 @@ module _ (s : ℕ) (ls : List Stamped) (b : Booking) where
 
   pub sight-nothing : lookOf s ls b ≡ Nothing → sightOf s ls b ≡ Nothing
   sight-nothing e = by-test (openAt s b) (λ o. sight-open o ∙ e) (λ o. sight-shut o)
+
+  -- where no place has the PIL nothing is seen
+  pub sight-without : length ls ≤ firstWith ls (b .pil) → sightOf s ls b ≡ Nothing
+  sight-without h = sight-nothing (seen-first s b ls ∙ seen-none s b ls (firstWith ls (b .pil)) false h)

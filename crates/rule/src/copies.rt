@@ -51,7 +51,7 @@ pub fn from_recording(s: u32, places: [Stamped; 16], b: Booking, p: usize, mi: b
     let l = label_at(places, p);
     let still = matches(s, b, l);
     if still {
-        return recording_at(places, p);
+        return Copy::Recording { place: p, mi: l.mi };
     }
     let seen = sight_of(s, places, b);
     if mi {

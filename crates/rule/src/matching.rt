@@ -2,7 +2,7 @@
 ghost use mathlib.Core.Bool.{cond};
 ghost use mathlib.Core.Path.{_≡_};
 ghost use Rattle.rule.specs.Rule.{openAt, endedAt, matches, sightOf};
-ghost use Rattle.rule.specs.Look.{named, lookOf};
+ghost use Rattle.rule.specs.Look.{named, firstWith, lookOf};
 use crate::Booking;
 use crate::Sight;
 use crate::Stamped;
@@ -31,12 +31,15 @@ pub fn ended_at(s: u32, b: Booking) -> bool
     }
 }
 
-// A standing label of the timer's programme, whether or not its window is open.
+// A standing label of the timer's programme, whether or not its window is open. The PIL is compared first: it tells most labels apart.
 fn named(s: u32, b: Booking, l: Stamped) -> bool
     ensures { λ r. ⌜ r ≡ named s b l ⌝ }
 {
-    let up = stands(l, s);
-    up & (l.cni == b.cni) & (l.pil == b.pil)
+    if l.pil == b.pil {
+        let up = stands(l, s);
+        return up & (l.cni == b.cni);
+    }
+    false
 }
 
 // The window is computed only where the label stands and is that of the programme.
@@ -50,12 +53,28 @@ pub fn matches(s: u32, b: Booking, l: Stamped) -> bool
     false
 }
 
-// One look at the places, as if the window were open; a label with PRF 0 ends it, since no other can come before it.
-fn look(s: u32, places: [Stamped; 16], b: Booking) -> Sight
+// The lowest place with a PIL, whether or not its label stands, and 16 where there is none.
+fn first_with(places: [Stamped; 16], pil: u32) -> usize
+    ensures { λ r. ⌜ r ≡ firstWith places pil ⌝ }
+{
+    let mut i: usize = 0;
+    while i < 16 {
+        let l = places[i];
+        if l.pil == pil {
+            return i;
+        }
+        i += 1;
+    }
+    16
+}
+
+// One look at the places from the first with the PIL on, as if the window were open; a label with PRF 0 ends it, since no other can come before it.
+fn look(s: u32, places: [Stamped; 16], b: Booking, from: usize) -> Sight
+    requires { ⌜ from ≡ firstWith places (b .pil) ⌝ }
     ensures { λ r. ⌜ r ≡ lookOf s places b ⌝ }
 {
     let mut prepared = false;
-    let mut i: usize = 0;
+    let mut i = from;
     while i < 16 {
         let l = places[i];
         let ours = named(s, b, l);
@@ -79,11 +98,16 @@ fn if_open(s: u32, b: Booking, seen: Sight) -> Sight
     if open { seen } else { Sight::Nothing }
 }
 
-// The labels of a programme share its window, so it is computed once, and only where one of them stands.
+// The labels of a programme share its window, so it is computed once, and only where one of them stands. Most timers have no label of theirs at
+// any place, which the PILs alone tell.
 pub fn sight_of(s: u32, places: [Stamped; 16], b: Booking) -> Sight
     ensures { λ r. ⌜ r ≡ sightOf s places b ⌝ }
 {
-    let seen = look(s, places, b);
+    let from = first_with(places, b.pil);
+    if 16 <= from {
+        return Sight::Nothing;
+    }
+    let seen = look(s, places, b, from);
     match seen {
         Sight::Nothing => Sight::Nothing,
         Sight::Prepare => if_open(s, b, seen),

@@ -13,10 +13,10 @@ pub fn no_label() -> Stamped
     ensures { λ r. ⌜ r ≡ noLabel ⌝ }
 {
     Stamped {
-        heard: false,
         stamp: 0,
-        cni: 0,
         pil: 0,
+        cni: 0,
+        heard: false,
         prf: false,
         mi: false,
     }
@@ -45,10 +45,10 @@ fn stamped(t: u32, l: Label) -> Stamped
     ensures { λ r. ⌜ r ≡ stamped t l ⌝ }
 {
     Stamped {
-        heard: true,
         stamp: t,
-        cni: l.cni,
         pil: l.pil,
+        cni: l.cni,
+        heard: true,
         prf: l.prf != 0,
         mi: l.mi != 0,
     }
@@ -61,10 +61,10 @@ fn renewed(t: u32, old: Stamped) -> Stamped
     let up = stands(old, t);
     if up {
         return Stamped {
-            heard: old.heard,
             stamp: t,
-            cni: old.cni,
             pil: old.pil,
+            cni: old.cni,
+            heard: old.heard,
             prf: old.prf,
             mi: old.mi,
         };

@@ -1,5 +1,5 @@
 -- Each exit is a case of the definition.
-use Rattle.rule.specs.Rule.{fromRecording}
+use Rattle.rule.specs.Rule.{recordingAt, fromRecording}
 use Rattle.rule.proofs.Steps.{moves-not-live}
 use borrow.Author.Needs.{needs}
 use Rattle.rule.proofs.copies.from_recording.Statement.{statement}
@@ -11,14 +11,9 @@ label-at-requires c κs = search needs
 matches-requires : tie.Need-matches-requires
 matches-requires c κs = search needs
 
-recording-at-requires : tie.Need-recording-at-requires
-recording-at-requires c κs = search needs
-
 returns : tie.Need-returns
-unfolding fromRecording
-returns c =
-    let b = c .before .before in
-    rw (← b .before .label-at .ensures, ← b .matches .ensures, c .before .if1 .taken) (c .recording-at .ensures)
+unfolding fromRecording recordingAt
+returns c = let b = c .before in rw (← b .before .label-at .ensures, ← b .matches .ensures, c .if1 .taken)
 
 sight-of-requires : tie.Need-sight-of-requires
 sight-of-requires c κs = search needs
@@ -51,7 +46,6 @@ from-recording-spec =
     (tie.spec
     label-at-requires
     matches-requires
-    recording-at-requires
     returns
     sight-of-requires
     not-live-requires

@@ -4,18 +4,18 @@ use mathlib.Core.Path.{_≡_, sym, _∙_}
 use lib.ListN.{length}
 use borrow.Author.Needs.{needs}
 use Rattle.rule.specs.Look.{lookOf}
-use Rattle.rule.proofs.Sights.{seenFrom, seen-all, seen-hit, seen-miss, seen-none}
+use Rattle.rule.proofs.Sights.{seenFrom, seen-first, seen-hit, seen-miss, seen-none}
 use Rattle.rule.proofs.matching.look.Statement.{statement}
 use Rattle.rule.proofs.matching.look.Tie as tie
 
 abbrev Inv-loop : tie.InvT-loop
-Inv-loop s b places prepared₀ i₀ prepared i = (i ≤ 16) × (length places ≡ 16) × (lookOf s places b ≡ seenFrom s b places i prepared)
+Inv-loop s b from places prepared₀ i₀ prepared i = (length places ≡ 16) × (lookOf s places b ≡ seenFrom s b places i prepared)
 
 abbrev μ-loop : tie.MeasureT-loop
-μ-loop s b places prepared₀ i₀ prepared i = 16 - i
+μ-loop s b from places prepared₀ i₀ prepared i = 16 - i
 
 loop-holds : tie.Need-loop-holds Inv-loop μ-loop
-loop-holds c = let a = c .args in (search needs, search needs, seen-all (a .s) (a .b) (a .t2))
+loop-holds c = let a = c .args in (search needs, rw (c .pre) (seen-first (a .s) (a .b) (a .t2)))
 
 mul-l : tie.Need-mul-l Inv-loop μ-loop
 mul-l c = search needs
@@ -30,7 +30,7 @@ returns : tie.Need-returns Inv-loop μ-loop
 returns c =
     let b = c .before .before .before .before .before in
     let a = b .before .args in
-    sym (b .loop .inv .2 ∙ seen-hit (a .s) (a .b) (a .t2) (b .loop .i) (b .loop .prepared) (search needs) (c .before .before .named .ensures) (c .if1 .taken))
+    sym (b .loop .inv .1 ∙ seen-hit (a .s) (a .b) (a .t2) (b .loop .i) (b .loop .prepared) (search needs) (c .before .before .named .ensures) (c .if1 .taken))
 
 add-i : tie.Need-add-i Inv-loop μ-loop
 add-i c = search needs
@@ -43,8 +43,7 @@ loop-again c =
     let b = c .before .before .before .before .before in
     let a = b .before .args in (
       search needs,
-      search needs,
-      b .loop .inv .2
+      b .loop .inv .1
           ∙ seen-miss (a .s) (a .b) (a .t2) (b .loop .i) (b .loop .prepared) (search needs) (c .before .before .named .ensures) (c .if1 .left),
     )
 
@@ -52,13 +51,13 @@ returns-2 : tie.Need-returns-2 Inv-loop μ-loop
 returns-2 c =
     let b = c .before .before in
     let a = b .before .args in
-    sym (b .loop .inv .2 ∙ seen-none (a .s) (a .b) (a .t2) (b .loop .i) (b .loop .prepared) (search needs) ∙ rw (c .if2 .taken))
+    sym (b .loop .inv .1 ∙ seen-none (a .s) (a .b) (a .t2) (b .loop .i) (b .loop .prepared) (search needs) ∙ rw (c .if2 .taken))
 
 returns-3 : tie.Need-returns-3 Inv-loop μ-loop
 returns-3 c =
     let b = c .before .before in
     let a = b .before .args in
-    sym (b .loop .inv .2 ∙ seen-none (a .s) (a .b) (a .t2) (b .loop .i) (b .loop .prepared) (search needs) ∙ rw (c .if2 .left))
+    sym (b .loop .inv .1 ∙ seen-none (a .s) (a .b) (a .t2) (b .loop .i) (b .loop .prepared) (search needs) ∙ rw (c .if2 .left))
 
 pub look-spec : {M : Type 1} → statement M
 look-spec =
