@@ -15,7 +15,7 @@ use crate::standing::label_at;
 const RUN_FOR: u64 = 30;
 
 // 'It remembers the MI of the label there.'
-pub fn recording_at(places: [Stamped; 16], p: usize) -> Copy
+fn recording_at(places: [Stamped; 16], p: usize) -> Copy
     ensures { λ r. ⌜ r ≡ recordingAt places p ⌝ }
 {
     let l = label_at(places, p);
@@ -45,7 +45,7 @@ fn moves_or(places: [Stamped; 16], seen: Sight, next: Copy) -> Copy
 }
 
 // A copy that is not live moves to the lowest place with PRF 0 too, so `not_live` needs no `moves_or` before it.
-pub fn from_recording(s: u32, places: [Stamped; 16], b: Booking, p: usize, mi: bool) -> Copy
+fn from_recording(s: u32, places: [Stamped; 16], b: Booking, p: usize, mi: bool) -> Copy
     ensures { λ r. ⌜ r ≡ fromRecording s places b p mi ⌝ }
 {
     let l = label_at(places, p);
@@ -61,7 +61,7 @@ pub fn from_recording(s: u32, places: [Stamped; 16], b: Booking, p: usize, mi: b
 }
 
 // As in `stands`, the sum has 64 bits.
-pub fn from_running_on(s: u32, places: [Stamped; 16], b: Booking, p: usize, v: u32) -> Copy
+fn from_running_on(s: u32, places: [Stamped; 16], b: Booking, p: usize, v: u32) -> Copy
     ensures { λ r. ⌜ r ≡ fromRunningOn s places b p v ⌝ }
 {
     let seen = sight_of(s, places, b);
@@ -81,7 +81,7 @@ fn from_not_live(s: u32, places: [Stamped; 16], b: Booking) -> Copy
 }
 
 // 'A closed window comes before all of these: it ends a recording or run-on at once.'
-pub fn next_copy(s: u32, places: [Stamped; 16], b: Booking, c: Copy) -> Copy
+fn next_copy(s: u32, places: [Stamped; 16], b: Booking, c: Copy) -> Copy
     ensures { λ r. ⌜ r ≡ nextCopy s places b c ⌝ }
 {
     match c {

@@ -10,7 +10,7 @@ use crate::standing::stands;
 use calendar::Validity;
 
 // A booking that is not real has no window.
-pub fn open_at(s: u32, b: Booking) -> bool
+fn open_at(s: u32, b: Booking) -> bool
     ensures { λ r. ⌜ r ≡ openAt s b ⌝ }
 {
     let validity = calendar::window_of(b.pil, b.year);
@@ -43,7 +43,7 @@ fn named(s: u32, b: Booking, l: Stamped) -> bool
 }
 
 // The window is computed only where the label stands and is that of the programme.
-pub fn matches(s: u32, b: Booking, l: Stamped) -> bool
+pub(crate) fn matches(s: u32, b: Booking, l: Stamped) -> bool
     ensures { λ r. ⌜ r ≡ matches s b l ⌝ }
 {
     let ours = named(s, b, l);
@@ -100,7 +100,7 @@ fn if_open(s: u32, b: Booking, seen: Sight) -> Sight
 
 // The labels of a programme share its window, so it is computed once, and only where one of them stands. Most timers have no label of theirs at
 // any place, which the PILs alone tell.
-pub fn sight_of(s: u32, places: [Stamped; 16], b: Booking) -> Sight
+pub(crate) fn sight_of(s: u32, places: [Stamped; 16], b: Booking) -> Sight
     ensures { λ r. ⌜ r ≡ sightOf s places b ⌝ }
 {
     let from = first_with(places, b.pil);
