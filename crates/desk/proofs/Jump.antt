@@ -16,7 +16,8 @@ use Rattle.rule.specs.declared.Copy.{Copy}
 use Rattle.rule.specs.declared.Copy.the-variants.{Free, Waiting, Prepared, Recording, RunningOn}
 use Rattle.rule.specs.declared.Timer.{Timer}
 use Rattle.rule.specs.declared.Sight.the-variants.{Nothing}
-use Rattle.desk.specs.Moments.{noTimer, moment, clockedAt, nextSecond, walk, quiet, walkedIn}
+use Rattle.sixteen.specs.Sixteen.{noTimer}
+use Rattle.desk.specs.Moments.{moment, clockedAt, nextSecond, walk, quiet, walkedIn}
 use Rattle.desk.specs.Calls.{timerAt}
 use Rattle.desk.specs.declared.Desk.{Desk}
 use Rattle.desk.proofs.Settle.{walk-keeps}

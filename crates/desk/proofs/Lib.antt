@@ -2,7 +2,6 @@ pub mod Settle
 pub mod Jump
 pub mod Fast
 pub mod Turns
-pub mod Counts
 pub mod Gate
 pub mod Only
 pub mod Proved

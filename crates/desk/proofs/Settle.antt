@@ -1,7 +1,7 @@
 -- A second moment at the same second changes nothing, so that every moment leaves a settled desk.
 use Prim.Native.Nat.{ℕ, zero, suc, _-_, _≤_}
 use mathlib.Core.Path.{_≡_, refl}
-use mathlib.Core.Bool.{Bool, true, false, cond, not, _&&_, and-false, true≢false}
+use mathlib.Core.Bool.{Bool, true, false, cond, not, _&&_, and-false}
 use mathlib.Core.List.{List, [], _∷_, map}
 use native.Mathlib.Omega.{arith}
 use borrow.Author.Tests.{lt-ltb, not-true}
@@ -16,6 +16,7 @@ use Rattle.rule.specs.declared.Copy.the-variants.{Free, Waiting, Prepared, Reco
 use Rattle.rule.specs.declared.Timer.{Timer}
 use Rattle.rule.specs.declared.Sight.{Sight}
 use Rattle.rule.specs.declared.Sight.the-variants.{Nothing, Prepare, Start}
+use Rattle.rule.proofs.Steps.{free-copy}
 use Rattle.desk.specs.Moments.{moment, clockedAt, nextSecond, walk}
 use Rattle.desk.specs.declared.Desk.{Desk}
 
@@ -38,14 +39,6 @@ found-passes f z i (x ∷ xs) = go (f x) refl (found-passes f z (suc i) xs)
 
 pub lowest-passes : {A : Type 0} (f : A → Bool) (z : A) (xs : List A) (q : ℕ) → lowest f xs ≡ at q → f (getD xs q z) ≡ true
 lowest-passes f z xs q e = let d : q - 0 ≡ q = omega arith in rw (e, d) at (found-passes f z 0 xs) .1
-
--- ── a copy that is not held ────────────────────────────────────────────────────────────────────────────────────────
-pub not-held : (c : Copy) → held c ≡ false → c ≡ Free
-not-held Free e = refl
-not-held Waiting e = absurd (true≢false e)
-not-held Prepared e = absurd (true≢false e)
-not-held (Recording p mi) e = absurd (true≢false e)
-not-held (RunningOn p v) e = absurd (true≢false e)
 
 -- ── one timer's copy, at a second s ────────────────────────────────────────────────────────────────────────────────
 module _ (s : ℕ) (ls : List Stamped) (b : Booking) where
@@ -123,17 +116,13 @@ module _ (s : ℕ) (ls : List Stamped) (b : Booking) where
   unfolding nextCopy
   nextCopy-ended e c h = rw (h, e)
 
-  pub nextCopy-free : nextCopy s ls b Free ≡ Free
-  unfolding nextCopy
-  nextCopy-free = refl
-
   nextCopy-twice : (c : Copy) → nextCopy s ls b (nextCopy s ls b c) ≡ nextCopy s ls b c
   nextCopy-twice c = go (endedAt s b) (held c) refl refl
     where
       go : (t h : Bool) → endedAt s b ≡ t → held c ≡ h → nextCopy s ls b (nextCopy s ls b c) ≡ nextCopy s ls b c
       go false h e k = rw (nextCopy-open e (nextCopy s ls b c), nextCopy-open e c) (goesOn-stays c)
       go true true e k = rw (nextCopy-ended e c k) (nextCopy-ended e Waiting refl)
-      go true false e k = rw (not-held c k, nextCopy-free) nextCopy-free
+      go true false e k = rw (free-copy s ls b c k) (free-copy s ls b c k)
 
 -- ── the desk ───────────────────────────────────────────────────────────────────────────────────────────────────────
 nextTimer-twice : (s : ℕ) (ls : List Stamped) (t : Timer) → nextTimer s ls (nextTimer s ls t) ≡ nextTimer s ls t

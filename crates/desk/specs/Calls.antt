@@ -1,20 +1,21 @@
 -- The calls of the desk (document 01, 'Timers and calls'): when each is refused, and what an accepted one answers and leaves.
 use Prim.Native.Nat.{ℕ, _+_, _*_}
-use mathlib.Core.Bool.{Bool, true, false, cond, not, _&&_, _||_}
+use mathlib.Core.Bool.{cond, not, _&&_, _||_}
 use mathlib.Core.List.{List, [], _∷_}
-use lib.Dec.{leb, ltb, eqb}
+use lib.Dec.{leb, ltb}
 use lib.ListN.{getD, set}
-use Rattle.hamming.specs.Answer.{Answer, refused, given, Row, firstOf, andThen}
+use Rattle.hamming.specs.Answer.{Answer, Row, firstOf, andThen}
 use Rattle.label.specs.declared.Label.{Label}
-use Rattle.label.specs.Packet.{readingOf, refusalNumber}
+use Rattle.label.specs.Packet.{readingOf}
 use Rattle.calendar.specs.Calendar.{windowIn, clockEnd}
 use Rattle.calendar.specs.declared.Window.{Window}
-use Rattle.rule.specs.Rule.{noLabel, heardAt, endedAt, held, Found, nowhere, at, lowest, some, flag}
+use Rattle.rule.specs.Rule.{noLabel, heardAt, endedAt, held, Found, some, flag}
 use Rattle.rule.specs.declared.Booking.{Booking}
 use Rattle.rule.specs.declared.Timer.{Timer}
 use Rattle.rule.specs.declared.Copy.{Copy}
 use Rattle.rule.specs.declared.Copy.the-variants.{Free, Waiting, Prepared, Recording, RunningOn}
-use Rattle.desk.specs.Moments.{noTimer, moment, nextSecond, passTo, walkedTo}
+use Rattle.sixteen.specs.Sixteen.{noTimer, active, sameBooking, roomAt, isNowhere, slotOf}
+use Rattle.desk.specs.Moments.{moment, nextSecond, passTo, walkedTo}
 use Rattle.desk.specs.declared.Desk.{Desk}
 
 -- what an accepted call that tells a number gives: the number, and the desk afterwards
@@ -69,25 +70,9 @@ unfoldable pub secondOf : Desk → Answer Desk
 secondOf d = firstOf ((leb clockEnd (d .clock), 10) ∷ []) (nextSecond d)
 
 -- ── timers ─────────────────────────────────────────────────────────────────────────────────────────────────────────
--- 'held and not ended'
-abbrev pub active : ℕ → Timer → Bool
-active s t = held (t .copy) && not (endedAt s (t .booking))
-
--- 'two timers are the same if all three agree'
-abbrev pub sameBooking : Booking → Booking → Bool
-sameBooking a b = eqb (a .cni) (b .cni) && eqb (a .pil) (b .pil) && eqb (a .year) (b .year)
-
 -- 'the lowest slot that is free or whose window has ended'
 unfoldable pub roomIn : Desk → Found
-roomIn d = lowest (λ t. not (active (d .clock) t)) (d .timers)
-
-abbrev pub isNowhere : Found → Bool
-isNowhere nowhere = true
-isNowhere (at i) = false
-
-abbrev pub slotOf : Found → ℕ
-slotOf nowhere = 16
-slotOf (at i) = i
+roomIn d = roomAt (d .clock) (d .timers)
 
 abbrev pub withTimer : ℕ → Timer → Desk → Desk
 withTimer slot t d = record { clock = d .clock; places = d .places; timers = set (d .timers) slot t }

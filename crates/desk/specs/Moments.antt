@@ -1,20 +1,11 @@
 -- The desk second by second (document 01, 'The second-by-second rule'): its moments, its seconds and its waits.
-use Prim.Native.Nat.{ℕ, zero, suc, _+_, _-_}
+use Prim.Native.Nat.{ℕ, zero, suc, _-_}
 use mathlib.Core.Bool.{Bool, cond, not, _&&_}
-use mathlib.Core.List.{List, [], _∷_, map}
+use mathlib.Core.List.{map}
 use lib.ListN.{replicate}
 use Rattle.rule.specs.Rule.{noLabel, stands, nextTimer, liveTimer, some}
-use Rattle.rule.specs.declared.Booking.{Booking}
-use Rattle.rule.specs.declared.Timer.{Timer}
-use Rattle.rule.specs.declared.Copy.the-variants.{Free}
+use Rattle.sixteen.specs.Sixteen.{noTimer, count}
 use Rattle.desk.specs.declared.Desk.{Desk}
-
-abbrev pub noBooking : Booking
-noBooking = record { cni = 0; pil = 0; year = 0 }
-
--- a free slot
-abbrev pub noTimer : Timer
-noTimer = record { booking = noBooking; copy = Free }
 
 -- 'a fresh desk has clock 0, no label at any place and every slot free'
 abbrev pub fresh : Desk
@@ -53,10 +44,6 @@ walkedIn (suc n) d = let more = suc (walkedIn n (nextSecond d)) in cond (quiet d
 -- 'a wait to second t reports how many seconds it walked'
 unfoldable pub walkedTo : ℕ → Desk → ℕ
 walkedTo t d = walkedIn (t - d .clock) d
-
-abbrev pub count : {A : Type 0} → (A → Bool) → List A → ℕ
-count f [] = 0
-count f (x ∷ xs) = cond (f x) 1 0 + count f xs
 
 -- 'the count of live timers'
 unfoldable pub liveCount : Desk → ℕ

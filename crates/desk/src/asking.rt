@@ -1,18 +1,16 @@
 // Asking: it changes nothing.
 ghost use mathlib.Core.Path.{_≡_};
-ghost use Rattle.rule.specs.Rule.{liveTimer};
-ghost use Rattle.desk.specs.Moments.{count, liveCount};
+ghost use Rattle.desk.specs.Moments.{liveCount};
 ghost use Rattle.desk.specs.Calls.{copySays, askOf};
 ghost use Rattle.desk.specs.Numbers.{stateSays, askAnswer};
 use crate::AskAnswer;
 use crate::Desk;
 use crate::State;
-use crate::timers::timer_at;
 use rule::Copy;
-use rule::Timer;
 use rule::copies::is_held;
-use rule::copies::is_live;
 use rule::matching::ended_at;
+use sixteen::slots::count_live;
+use sixteen::slots::timer_at;
 
 fn state_of(c: Copy) -> State
     ensures { λ r. ⌜ stateSays r ≡ copySays c ⌝ }
@@ -24,21 +22,6 @@ fn state_of(c: Copy) -> State
         Copy::Recording { place, mi: _ } => State::Recording { place },
         Copy::RunningOn { place, since: _ } => State::RunningOn { place },
     }
-}
-
-fn count_live(timers: [Timer; 16]) -> u32
-    ensures { λ r. ⌜ r ≡ count liveTimer timers ⌝ }
-{
-    let mut n: u32 = 0;
-    let mut i: usize = 0;
-    while i < 16 {
-        let t = timers[i];
-        let c = t.copy;
-        let live = is_live(c);
-        n += live as u32;
-        i += 1;
-    }
-    n
 }
 
 impl Desk {

@@ -1,6 +1,5 @@
 // Packets: refused, read, and heard.
 ghost use mathlib.Core.Path.{_≡_};
-ghost use lib.ListN.{set};
 ghost use Rattle.hamming.specs.Answer.{firstOf, number, after};
 ghost use Rattle.desk.specs.Calls.{tunerRows, labelRows, withLabel, hearingAt, hearing, packetOf};
 ghost use Rattle.desk.specs.Numbers.{packetNumber};
@@ -11,20 +10,9 @@ use crate::PacketRefusal;
 use crate::moments::CLOCK_END;
 use label::Label;
 use label::Reading;
-use rule::Stamped;
 use rule::standing::heard_at;
 use rule::standing::label_at;
-
-fn put(places: [Stamped; 16], p: usize, l: Stamped) -> [Stamped; 16]
-    ensures { λ r. ⌜ r ≡ set places p l ⌝ }
-{
-    if p < 16 {
-        let mut out = places;
-        out[p] = l;
-        return out;
-    }
-    places
-}
+use sixteen::places::put_label;
 
 impl Desk {
     // 'Sixteen places, a tuner 0 to 3 with an LCI 0 to 3, ordered by tuner, then LCI.'
@@ -36,7 +24,7 @@ impl Desk {
         let p = tuner as usize * 4 + l.lci as usize;
         let old = label_at(places, p);
         let new = heard_at(self.clock, l, old);
-        let next = put(places, p, new);
+        let next = put_label(places, p, new);
         Desk {
             clock: self.clock,
             places: next,

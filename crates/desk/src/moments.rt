@@ -1,8 +1,6 @@
 // Moments, seconds and waits. The seconds after which a desk is quiet are not walked one by one: see `pass`.
-ghost use mathlib.Core.List.{map};
 ghost use mathlib.Core.Path.{_≡_};
 ghost use Rattle.hamming.specs.Answer.{number, after};
-ghost use Rattle.rule.specs.Rule.{stands, some, liveTimer, nextTimer};
 ghost use Rattle.desk.specs.Moments.{fresh, moment, clockedAt, quiet, passTo, walkedTo};
 ghost use Rattle.desk.specs.Calls.{waitOf, secondOf};
 ghost use Rattle.desk.specs.Numbers.{waitAnswer, saidBy, leftBy, secondNumber};
@@ -11,66 +9,13 @@ use crate::Passed;
 use crate::SecondAnswer;
 use crate::WaitAnswer;
 use crate::Waited;
-use crate::timers::no_timer;
-use rule::Stamped;
-use rule::Timer;
-use rule::copies::is_held;
-use rule::copies::is_live;
-use rule::copies::next_timer;
 use rule::standing::no_label;
-use rule::standing::stands;
+use sixteen::places::any_stands;
+use sixteen::slots::all_next;
+use sixteen::slots::any_live;
+use sixteen::slots::no_timer;
 
 pub(crate) const CLOCK_END: u32 = 3155774400;
-
-// A free slot stays free, so there is nothing to do for it.
-fn all_next(s: u32, places: [Stamped; 16], timers: [Timer; 16]) -> [Timer; 16]
-    ensures { λ r. ⌜ r ≡ map (nextTimer s places) timers ⌝ }
-{
-    let mut out = timers;
-    let mut i: usize = 0;
-    while i < 16 {
-        let t = out[i];
-        let c = t.copy;
-        let held = is_held(c);
-        if held {
-            let next = next_timer(s, places, t);
-            out[i] = next;
-        }
-        i += 1;
-    }
-    out
-}
-
-fn any_stands(s: u32, places: [Stamped; 16]) -> bool
-    ensures { λ r. ⌜ r ≡ some (stands s) places ⌝ }
-{
-    let mut i: usize = 0;
-    while i < 16 {
-        let l = places[i];
-        let up = stands(l, s);
-        if up {
-            return true;
-        }
-        i += 1;
-    }
-    false
-}
-
-fn any_live(timers: [Timer; 16]) -> bool
-    ensures { λ r. ⌜ r ≡ some liveTimer timers ⌝ }
-{
-    let mut i: usize = 0;
-    while i < 16 {
-        let t = timers[i];
-        let c = t.copy;
-        let live = is_live(c);
-        if live {
-            return true;
-        }
-        i += 1;
-    }
-    false
-}
 
 // The desk that the passing of seconds leaves, and how many were walked.
 pub(crate) struct Pass {

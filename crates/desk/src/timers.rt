@@ -1,14 +1,10 @@
 // Adding and cancelling.
-ghost use mathlib.Core.Bool.{not, _&&_};
 ghost use mathlib.Core.Path.{_≡_};
-ghost use lib.Dec.{leb};
-ghost use lib.ListN.{getD, set};
 ghost use Rattle.hamming.specs.Answer.{firstOf, number, after};
-ghost use Rattle.rule.specs.Rule.{lowest, some};
-ghost use Rattle.rule.specs.declared.Booking.{Booking};
 ghost use Rattle.rule.specs.declared.Copy.the-variants.{Waiting};
-ghost use Rattle.desk.specs.Moments.{noTimer, moment};
-ghost use Rattle.desk.specs.Calls.{active, sameBooking, roomIn, isNowhere, slotOf, withTimer, addRows, addOf, cancelOf};
+ghost use Rattle.sixteen.specs.Sixteen.{slotOf};
+ghost use Rattle.desk.specs.Moments.{moment};
+ghost use Rattle.desk.specs.Calls.{roomIn, withTimer, addRows, addOf, cancelOf};
 ghost use Rattle.desk.specs.Numbers.{addAnswer, cancelNumber, saidBy, leftBy};
 use crate::AddAnswer;
 use crate::Added;
@@ -21,106 +17,11 @@ use rule::Booking;
 use rule::Copy;
 use rule::Timer;
 use rule::copies::is_held;
-use rule::matching::ended_at;
-
-// Past the last slot there is no timer.
-pub(crate) fn timer_at(timers: [Timer; 16], slot: usize) -> Timer
-    ensures { λ r. ⌜ r ≡ getD timers slot noTimer ⌝ }
-{
-    if slot < 16 {
-        return timers[slot];
-    }
-    no_timer()
-}
-
-pub(crate) fn no_timer() -> Timer
-    ensures { λ r. ⌜ r ≡ noTimer ⌝ }
-{
-    let b = Booking {
-        pil: 0,
-        cni: 0,
-        year: 0,
-    };
-    Timer {
-        booking: b,
-        copy: Copy::Free,
-    }
-}
-
-// 'Held and not ended.'
-fn active(s: u32, t: Timer) -> bool
-    ensures { λ r. ⌜ r ≡ active s t ⌝ }
-{
-    let c = t.copy;
-    let b = t.booking;
-    let held = is_held(c);
-    if held {
-        let over = ended_at(s, b);
-        return !over;
-    }
-    false
-}
-
-// 'Two timers are the same if all three agree.'
-fn same_booking(a: Booking, b: Booking) -> bool
-    ensures { λ r. ⌜ r ≡ sameBooking a b ⌝ }
-{
-    (a.cni == b.cni) & (a.pil == b.pil) & (a.year == b.year)
-}
-
-// 'The same timer is held and not ended': the window is computed only where the booking is the same.
-fn holds(s: u32, b: Booking, t: Timer) -> bool
-    ensures { λ r. ⌜ r ≡ (active s t && sameBooking b (t .booking)) ⌝ }
-{
-    let a = t.booking;
-    let same = same_booking(b, a);
-    if same {
-        return active(s, t);
-    }
-    false
-}
-
-fn any_holds(s: u32, timers: [Timer; 16], b: Booking) -> bool
-    ensures { λ r. ⌜ r ≡ some (λ t. active s t && sameBooking b (t .booking)) timers ⌝ }
-{
-    let mut i: usize = 0;
-    while i < 16 {
-        let t = timers[i];
-        let same = holds(s, b, t);
-        if same {
-            return true;
-        }
-        i += 1;
-    }
-    false
-}
-
-// 'The lowest slot that is free or whose window has ended', and 16 where there is none.
-fn room(s: u32, timers: [Timer; 16]) -> usize
-    ensures { λ r. ⌜ (r ≡ slotOf (lowest (λ t. not (active s t)) timers)) × (leb 16 r ≡ isNowhere (lowest (λ t. not (active s t)) timers)) ⌝ }
-{
-    let mut i: usize = 0;
-    while i < 16 {
-        let t = timers[i];
-        let taken = active(s, t);
-        if !taken {
-            return i;
-        }
-        i += 1;
-    }
-    16
-}
-
-fn put(timers: [Timer; 16], slot: usize, t: Timer) -> [Timer; 16]
-    ensures { λ r. ⌜ r ≡ set timers slot t ⌝ }
-{
-    if slot < 16 {
-        let mut out = timers;
-        out[slot] = t;
-        return out;
-    }
-    timers
-}
+use sixteen::slots::any_holds;
+use sixteen::slots::no_timer;
+use sixteen::slots::put_timer;
+use sixteen::slots::room;
+use sixteen::slots::timer_at;
 
 impl Desk {
     fn with_timer(self, slot: usize, t: Timer) -> Desk
@@ -128,7 +29,7 @@ impl Desk {
     {
         let places = self.places;
         let timers = self.timers;
-        let next = put(timers, slot, t);
+        let next = put_timer(timers, slot, t);
         Desk {
             clock: self.clock,
             places: places,

@@ -20,8 +20,9 @@ use Rattle.rule.specs.declared.Booking.{Booking}
 use Rattle.rule.specs.declared.Copy.the-variants.{Waiting}
 use Rattle.rule.specs.declared.Timer.{Timer}
 use Rattle.desk.specs.declared.Desk.{Desk}
-use Rattle.desk.specs.Moments.{noTimer, fresh, moment, clockedAt, nextSecond, walk, passTo}
-use Rattle.desk.specs.Calls.{placeOf, withLabel, active, sameBooking, withTimer, timerAt}
+use Rattle.sixteen.specs.Sixteen.{noTimer, active, sameBooking}
+use Rattle.desk.specs.Moments.{fresh, moment, clockedAt, nextSecond, walk, passTo}
+use Rattle.desk.specs.Calls.{placeOf, withLabel, withTimer, timerAt}
 use Rattle.desk.proofs.Settle.{moment-settled}
 use Rattle.desk.proofs.Jump.{some-none, timerAt-moment}
 use Rattle.history.specs.Run.{Call, outcome, left, deskAfter, reached}

@@ -14,7 +14,8 @@ use Rattle.rule.specs.declared.Copy.{Copy}
 use Rattle.rule.specs.declared.Copy.the-variants.{Free, Waiting, Prepared, Recording, RunningOn}
 use Rattle.rule.specs.declared.Sight.{Sight}
 use Rattle.rule.specs.declared.Sight.the-variants.{Nothing, Prepare, Start}
-use Rattle.desk.proofs.Settle.{start-matches, not-held, nextCopy-open, nextCopy-ended, nextCopy-free}
+use Rattle.rule.proofs.Steps.{not-held, free-copy}
+use Rattle.desk.proofs.Settle.{start-matches, nextCopy-open, nextCopy-ended}
 use Rattle.history.specs.Laws.{SinceBy}
 use Rattle.history.proofs.Windows.{matches-open}
 
@@ -75,7 +76,7 @@ module _ (s : ℕ) (ls : List Stamped) (b : Booking) where
       go : (t h : Bool) → endedAt s b ≡ t → held c ≡ h → Next c (nextCopy s ls b c)
       go false h e k = rw (nextCopy-open s ls b e c) (next-open e c)
       go true true e k = rw (nextCopy-ended s ls b e c k) (waits k)
-      go true false e k = rw (not-held c k, nextCopy-free s ls b) (free refl)
+      go true false e k = let f = not-held c k in rw (free-copy s ls b c k, f) (free refl)
 
   -- ── what is kept ─────────────────────────────────────────────────────────────────────────────────────────────────
   pub next-held : {c n : Copy} → Next c n → held n ≡ held c

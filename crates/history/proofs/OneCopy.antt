@@ -11,8 +11,8 @@ use Rattle.rule.specs.Rule.{held, isLive, liveTimer}
 use Rattle.rule.specs.declared.Copy.{Copy}
 use Rattle.rule.specs.declared.Copy.the-variants.{Free, Waiting, Prepared, Recording, RunningOn}
 use Rattle.desk.specs.declared.Desk.{Desk}
-use Rattle.desk.specs.Moments.{noTimer, count}
-use Rattle.desk.specs.Calls.{active, sameBooking, timerAt}
+use Rattle.sixteen.specs.Sixteen.{noTimer, count, active, sameBooking}
+use Rattle.desk.specs.Calls.{timerAt}
 use Rattle.history.specs.Laws.{copyOf, Sound}
 use Rattle.history.proofs.Lists.{count-one}
 use Rattle.history.proofs.Windows.{open-not-ended, open-in-window}

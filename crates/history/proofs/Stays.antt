@@ -16,8 +16,9 @@ use Rattle.rule.specs.declared.Copy.{Copy}
 use Rattle.rule.specs.declared.Copy.the-variants.{Recording}
 use Rattle.rule.specs.declared.Timer.{Timer}
 use Rattle.desk.specs.declared.Desk.{Desk}
-use Rattle.desk.specs.Moments.{noTimer, moment, clockedAt, nextSecond, walk, passTo}
-use Rattle.desk.specs.Calls.{active, roomIn, withLabel, withTimer, timerAt}
+use Rattle.sixteen.specs.Sixteen.{noTimer, active}
+use Rattle.desk.specs.Moments.{moment, clockedAt, nextSecond, walk, passTo}
+use Rattle.desk.specs.Calls.{roomIn, withLabel, withTimer, timerAt}
 use Rattle.desk.proofs.Settle.{lowest-passes, nextCopy-open}
 use Rattle.desk.proofs.Jump.{timerAt-moment, walk-clock}
 use Rattle.history.specs.Run.{Call, cancel, deskAfter}

@@ -14,8 +14,9 @@ use Rattle.rule.specs.Rule.{Found, nowhere, at, some}
 use Rattle.rule.specs.declared.Booking.{Booking}
 use Rattle.rule.specs.declared.Copy.the-variants.{Waiting}
 use Rattle.desk.specs.declared.Desk.{Desk}
-use Rattle.desk.specs.Moments.{noTimer, moment, nextSecond, passTo}
-use Rattle.desk.specs.Calls.{Told, Says, tunerRows, timeRows, labelRows, withLabel, hearingAt, packetOf, waitOf, secondOf, active, sameBooking, roomIn, isNowhere, slotOf, withTimer, addRows, addOf, slotRows, cancelOf, askOf}
+use Rattle.sixteen.specs.Sixteen.{noTimer, active, sameBooking, isNowhere, slotOf}
+use Rattle.desk.specs.Moments.{moment, nextSecond, passTo}
+use Rattle.desk.specs.Calls.{Told, Says, tunerRows, timeRows, labelRows, withLabel, hearingAt, packetOf, waitOf, secondOf, roomIn, withTimer, addRows, addOf, slotRows, cancelOf, askOf}
 use Rattle.history.specs.Run.{Call, packet, wait, second, add, cancel, ask, live, onlyDesk, toldToo, saysOnly, outcome, left}
 
 pub data Step (d : Desk) (c : Call) : Desk → Type 0 where

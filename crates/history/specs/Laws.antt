@@ -16,8 +16,9 @@ use Rattle.rule.specs.declared.Copy.{Copy}
 use Rattle.rule.specs.declared.Copy.the-variants.{Free, Waiting, Prepared, Recording, RunningOn}
 use Rattle.rule.specs.declared.Timer.{Timer}
 use Rattle.desk.specs.declared.Desk.{Desk}
-use Rattle.desk.specs.Moments.{fresh, moment, walk, quiet, walkedIn, walkedTo, count}
-use Rattle.desk.specs.Calls.{packetOf, askOf, active, sameBooking, timerAt}
+use Rattle.sixteen.specs.Sixteen.{count, active, sameBooking}
+use Rattle.desk.specs.Moments.{fresh, moment, walk, quiet, walkedIn, walkedTo}
+use Rattle.desk.specs.Calls.{packetOf, askOf, timerAt}
 use Rattle.history.specs.Run.{Call, wait, cancel, deskAfter, answersOf, reached, accepted, givenOnes}
 
 abbrev pub Each : {A : Type 0} → (A → Type 0) → List A → Type 0

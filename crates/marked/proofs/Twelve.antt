@@ -7,7 +7,7 @@ use Rattle.calendar.specs.Calendar.{leap, daysIn, dayExists, realIn, sumBelow, 
 use Rattle.label.specs.Packet.{readingOf, byteFor, writingOf}
 use Rattle.label.specs.Pil.{serviceOf}
 use Rattle.rule.specs.Rule.{stands, heardAt, openAt, endedAt, matches, sightOf, recordingAt, fromRecording, fromRunningOn, nextCopy, nextTimer}
-use Rattle.desk.specs.Moments.{noTimer, fresh, clockedAt, moment, nextSecond, walk, passTo, quiet, walkedIn, walkedTo, liveCount}
+use Rattle.desk.specs.Moments.{fresh, clockedAt, moment, nextSecond, walk, passTo, quiet, walkedIn, walkedTo, liveCount}
 use Rattle.desk.specs.Calls.{withLabel, withTimer, hearingAt, packetOf, waitOf, roomIn, addOf, askOf}
 use Rattle.sheet.specs.Sheet.{decimal, packetLine, timerTold, timerLeft, packetTold, packetLeft, packetsFrom, timersFrom, sheetOf}
 use Rattle.history.specs.Run.{Call, packet, wait, add, ask, live, Done, outcome, answersOf, deskAfter}

@@ -24,12 +24,6 @@ module _ {A : Type 0} (f : A → Bool) (xs : List A) (i : ℕ) where
   pub some-more : (d : A) → i < length xs → some f (drop i xs) ≡ (f (getD xs i d) || some f (drop (i + 1) xs))
   some-more d h = rw (drop-cons xs i d h, add-one i)
 
-  pub some-hit : (d : A) → i < length xs → f (getD xs i d) ≡ true → some f (drop i xs) ≡ true
-  some-hit d h e = rw (drop-cons xs i d h, e)
-
-  pub some-miss : (d : A) → i < length xs → f (getD xs i d) ≡ false → some f (drop i xs) ≡ some f (drop (i + 1) xs)
-  some-miss d h e = rw (drop-cons xs i d h, e, add-one i)
-
   pub some-none : length xs ≤ i → some f (drop i xs) ≡ false
   some-none h = rw (drop-of-length-le xs h)
 

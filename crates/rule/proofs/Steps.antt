@@ -47,13 +47,16 @@ module _ (s : ℕ) (ls : List Stamped) (b : Booking) where
   next-prepared = ended-waits
 
 -- ── a free slot ────────────────────────────────────────────────────────────────────────────────────────────────────
-free-copy : (s : ℕ) (ls : List Stamped) (b : Booking) (c : Copy) → held c ≡ false → nextCopy s ls b c ≡ c
+pub not-held : (c : Copy) → held c ≡ false → c ≡ Free
+not-held Free e = refl
+not-held Waiting e = absurd (true≢false e)
+not-held Prepared e = absurd (true≢false e)
+not-held (Recording p mi) e = absurd (true≢false e)
+not-held (RunningOn p v) e = absurd (true≢false e)
+
+pub free-copy : (s : ℕ) (ls : List Stamped) (b : Booking) (c : Copy) → held c ≡ false → nextCopy s ls b c ≡ c
 unfolding nextCopy
-free-copy s ls b Free e = refl
-free-copy s ls b Waiting e = absurd (true≢false e)
-free-copy s ls b Prepared e = absurd (true≢false e)
-free-copy s ls b (Recording p mi) e = absurd (true≢false e)
-free-copy s ls b (RunningOn p v) e = absurd (true≢false e)
+free-copy s ls b c e = rw (not-held c e)
 
 pub free-stays : (s : ℕ) (ls : List Stamped) (t : Timer) → held (t .copy) ≡ false → nextTimer s ls t ≡ t
 unfolding nextTimer

@@ -17,8 +17,9 @@ use Rattle.rule.specs.declared.Booking.{Booking}
 use Rattle.rule.specs.declared.Copy.the-variants.{Waiting}
 use Rattle.rule.specs.declared.Timer.{Timer}
 use Rattle.desk.specs.declared.Desk.{Desk}
-use Rattle.desk.specs.Calls.{Told, tunerRows, labelRows, hearingAt, packetOf, roomIn, isNowhere, slotOf, withLabel, withTimer, addRows, addOf}
-use Rattle.desk.specs.Moments.{moment, clockedAt, nextSecond, walk, passTo, count, liveCount}
+use Rattle.sixteen.specs.Sixteen.{isNowhere, slotOf, count}
+use Rattle.desk.specs.Calls.{Told, tunerRows, labelRows, hearingAt, packetOf, roomIn, withLabel, withTimer, addRows, addOf}
+use Rattle.desk.specs.Moments.{moment, clockedAt, nextSecond, walk, passTo, liveCount}
 use Rattle.desk.specs.Numbers.{leftBy}
 use Rattle.sheet.specs.Sheet.{numberOf, bookingIn, timerLeft, packetLeft}
 

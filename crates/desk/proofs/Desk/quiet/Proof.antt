@@ -12,7 +12,7 @@ any-live-requires c κs = search needs
 
 returns : tie.Need-returns
 unfolding quiet
-returns c = rw (c .any-live .ensures, c .before .any-stands .ensures)
+returns c = rw (← c .any-live .ensures, ← c .before .any-stands .ensures)
 
 pub quiet-spec : {M : Type 1} → statement M
 quiet-spec = tie.close (tie.spec any-stands-requires any-live-requires returns)

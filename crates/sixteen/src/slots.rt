@@ -1,0 +1,167 @@
+// The sixteen slots.
+ghost use mathlib.Core.Bool.{_&&_};
+ghost use mathlib.Core.List.{map};
+ghost use mathlib.Core.Path.{_≡_};
+ghost use lib.Dec.{leb};
+ghost use lib.ListN.{getD, set};
+ghost use Rattle.rule.specs.Rule.{some, liveTimer, nextTimer};
+ghost use Rattle.sixteen.specs.Sixteen.{noTimer, active, sameBooking, roomAt, isNowhere, slotOf, count};
+use rule::Booking;
+use rule::Copy;
+use rule::Stamped;
+use rule::Timer;
+use rule::copies::is_held;
+use rule::copies::is_live;
+use rule::copies::next_timer;
+use rule::matching::ended_at;
+
+pub fn no_timer() -> Timer
+    ensures { λ r. ⌜ r ≡ noTimer ⌝ }
+{
+    let b = Booking {
+        pil: 0,
+        cni: 0,
+        year: 0,
+    };
+    Timer {
+        booking: b,
+        copy: Copy::Free,
+    }
+}
+
+// Past the last slot there is no timer.
+pub fn timer_at(timers: [Timer; 16], slot: usize) -> Timer
+    ensures { λ r. ⌜ r ≡ getD timers slot noTimer ⌝ }
+{
+    if slot < 16 {
+        return timers[slot];
+    }
+    no_timer()
+}
+
+// Past the last slot nothing is put.
+pub fn put_timer(timers: [Timer; 16], slot: usize, t: Timer) -> [Timer; 16]
+    ensures { λ r. ⌜ r ≡ set timers slot t ⌝ }
+{
+    if slot < 16 {
+        let mut out = timers;
+        out[slot] = t;
+        return out;
+    }
+    timers
+}
+
+// 'Held and not ended.'
+fn active(s: u32, t: Timer) -> bool
+    ensures { λ r. ⌜ r ≡ active s t ⌝ }
+{
+    let c = t.copy;
+    let b = t.booking;
+    let held = is_held(c);
+    if held {
+        let over = ended_at(s, b);
+        return !over;
+    }
+    false
+}
+
+// 'Two timers are the same if all three agree.'
+fn same_booking(a: Booking, b: Booking) -> bool
+    ensures { λ r. ⌜ r ≡ sameBooking a b ⌝ }
+{
+    (a.cni == b.cni) & (a.pil == b.pil) & (a.year == b.year)
+}
+
+// 'The same timer is held and not ended': the window is computed only where the booking is the same.
+fn holds(s: u32, b: Booking, t: Timer) -> bool
+    ensures { λ r. ⌜ r ≡ (active s t && sameBooking b (t .booking)) ⌝ }
+{
+    let a = t.booking;
+    let same = same_booking(b, a);
+    if same {
+        return active(s, t);
+    }
+    false
+}
+
+pub fn any_holds(s: u32, timers: [Timer; 16], b: Booking) -> bool
+    ensures { λ r. ⌜ r ≡ some (λ t. active s t && sameBooking b (t .booking)) timers ⌝ }
+{
+    let mut i: usize = 0;
+    while i < 16 {
+        let t = timers[i];
+        let same = holds(s, b, t);
+        if same {
+            return true;
+        }
+        i += 1;
+    }
+    false
+}
+
+// 'The lowest slot that is free or whose window has ended', and 16 where there is none.
+pub fn room(s: u32, timers: [Timer; 16]) -> usize
+    ensures { λ r. ⌜ (r ≡ slotOf (roomAt s timers)) × (leb 16 r ≡ isNowhere (roomAt s timers)) ⌝ }
+{
+    let mut i: usize = 0;
+    while i < 16 {
+        let t = timers[i];
+        let taken = active(s, t);
+        if !taken {
+            return i;
+        }
+        i += 1;
+    }
+    16
+}
+
+// 'At each moment every timer's copy goes on.' A free slot stays free, so there is nothing to do for it.
+pub fn all_next(s: u32, places: [Stamped; 16], timers: [Timer; 16]) -> [Timer; 16]
+    ensures { λ r. ⌜ r ≡ map (nextTimer s places) timers ⌝ }
+{
+    let mut out = timers;
+    let mut i: usize = 0;
+    while i < 16 {
+        let t = out[i];
+        let c = t.copy;
+        let held = is_held(c);
+        if held {
+            let next = next_timer(s, places, t);
+            out[i] = next;
+        }
+        i += 1;
+    }
+    out
+}
+
+pub fn any_live(timers: [Timer; 16]) -> bool
+    ensures { λ r. ⌜ r ≡ some liveTimer timers ⌝ }
+{
+    let mut i: usize = 0;
+    while i < 16 {
+        let t = timers[i];
+        let c = t.copy;
+        let live = is_live(c);
+        if live {
+            return true;
+        }
+        i += 1;
+    }
+    false
+}
+
+// 'The count of live timers.'
+pub fn count_live(timers: [Timer; 16]) -> u32
+    ensures { λ r. ⌜ r ≡ count liveTimer timers ⌝ }
+{
+    let mut n: u32 = 0;
+    let mut i: usize = 0;
+    while i < 16 {
+        let t = timers[i];
+        let c = t.copy;
+        let live = is_live(c);
+        n += live as u32;
+        i += 1;
+    }
+    n
+}
