@@ -1,6 +1,7 @@
 -- Each exit is a row of the table, or what the copy says.
-use mathlib.Core.Path.{ap}
+use mathlib.Core.Path.{_≡_, ap}
 use Rattle.hamming.specs.Answer.{given}
+use Rattle.rule.specs.Rule.{endedAt}
 use Rattle.desk.specs.Calls.{askOf}
 use borrow.Author.Needs.{needs}
 use Rattle.desk.proofs.Desk.ask.Statement.{statement}
@@ -23,7 +24,8 @@ returns-2 : tie.Need-returns-2
 unfolding askOf
 returns-2 c =
     let b = c .before .before .before in
-    rw (← b .before .before .timer-at .ensures, ← b .is-held .ensures, c .before .before .if1 .left, ← c .before .ended-at .ensures, c .if2 .taken)
+    let over : _ ≡ endedAt (b .before .before .before .before .args .self .clock) _ = c .before .ended-at .ensures in
+    rw (← b .before .before .timer-at .ensures, ← b .is-held .ensures, c .before .before .if1 .left, ← over, c .if2 .taken)
 
 state-of-requires : tie.Need-state-of-requires
 state-of-requires c κs = search needs
