@@ -1,4 +1,6 @@
 -- Each exit is a case of the definition.
+use mathlib.Core.Bool.{true}
+use mathlib.Core.Path.{_≡_}
 use Rattle.rule.specs.Rule.{recordingAt, fromRecording}
 use Rattle.rule.proofs.Steps.{moves-not-live}
 use borrow.Author.Needs.{needs}
@@ -13,7 +15,10 @@ matches-requires c κs = search needs
 
 returns : tie.Need-returns
 unfolding fromRecording recordingAt
-returns c = let b = c .before in rw (← b .before .label-at .ensures, ← b .matches .ensures, c .if1 .taken)
+returns c =
+    let b = c .before in
+    let still : b .matches .result ≡ true = c .if1 .taken in
+    rw (← b .before .label-at .ensures, ← b .matches .ensures, still)
 
 sight-of-requires : tie.Need-sight-of-requires
 sight-of-requires c κs = search needs
@@ -26,7 +31,8 @@ unfolding fromRecording
 returns-2 c =
     let v = c .before .before in
     let b = v .before .before in
-    rw (← b .before .label-at .ensures, ← b .matches .ensures, v .before .if1 .left, ← v .sight-of .ensures, c .before .if2 .taken, moves-not-live)
+    let remembered : b .before .before .args .mi ≡ true = c .before .if2 .taken in
+    rw (← b .before .label-at .ensures, ← b .matches .ensures, v .before .if1 .left, ← v .sight-of .ensures, remembered, moves-not-live)
     (c .not-live .ensures)
 
 moves-or-requires : tie.Need-moves-or-requires
