@@ -1,19 +1,5 @@
 //! The ordinary desk beside the independent one, which walks every second: on random sheets and on random rows of calls.
-#[allow(dead_code)]
-#[path = "../../tests/src"]
-mod shared {
-    // the same names as in the package of tests, which the files use
-    pub mod calendar;
-    pub mod calls;
-    pub mod desk;
-    pub mod faults;
-    pub mod paper;
-    pub mod random;
-    pub mod scenes;
-    pub mod sheet;
-    pub mod sheets;
-}
-use shared::{calendar, calls, desk, faults, paper, random, scenes, sheet, sheets};
+use independent::{calendar, calls, desk, paper, random, sheet, sheets};
 
 struct Ordinary(bench::desk::Desk);
 

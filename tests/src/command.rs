@@ -1,14 +1,53 @@
-//! How the compiled program is started.
-use std::path::Path;
+//! How what is built for the compiled code's processor is run. The tests themselves are the machine's own.
+use std::io::{Read, Write};
+use std::path::{Path, PathBuf};
+use std::process::{Command, ExitStatus, Stdio};
+use std::sync::Mutex;
 
-/// The program and its arguments: with the emulator in front where the tests themselves run under one.
-pub fn play() -> Vec<String> {
-    if let Ok(play) = std::env::var("PLAY") {
-        return play.split_whitespace().map(String::from).collect();
-    }
-    let play = Path::new(env!("CARGO_MANIFEST_DIR")).join("../target/bin/play");
-    let play = play.canonicalize().unwrap_or(play);
-    assert!(play.is_file(), "{} is missing: build the program first, or name it in PLAY", play.display());
-    let runner = std::env::var("CARGO_TARGET_X86_64_UNKNOWN_LINUX_GNU_RUNNER").ok();
-    runner.into_iter().chain([play.display().to_string()]).collect()
+/// Held while a process is started, and while anything sets a variable of the environment: a start copies them all.
+pub static ENVIRONMENT: Mutex<()> = Mutex::new(());
+
+/// A file of the repository.
+pub fn file(path: &str) -> PathBuf {
+    Path::new(env!("CARGO_MANIFEST_DIR")).join("..").join(path)
+}
+
+/// The same of one that a build leaves, as a word of a command.
+pub fn built(path: &str) -> String {
+    let path = file(path);
+    assert!(path.is_file(), "{} is missing: `./test` says what builds it", path.display());
+    path.display().to_string()
+}
+
+/// One of those that `tests/compiled` builds.
+pub fn compiled(name: &str) -> String {
+    built(&format!("tests/compiled/target/x86_64-unknown-linux-gnu/debug/{name}"))
+}
+
+/// The command that runs these words, under an emulator where there must be one.
+pub fn run(words: &[String]) -> Vec<String> {
+    [built("tools/run")].iter().chain(words).cloned().collect()
+}
+
+/// A size of pieces that takes all at once.
+pub const WHOLE: usize = usize::MAX;
+
+/// What a command prints, and how it ends. Its input comes in pieces of this size.
+pub fn printed(command: &[String], input: &[u8], piece: usize) -> (Vec<u8>, ExitStatus) {
+    let mut start = Command::new(&command[0]);
+    start.args(&command[1..]).stdin(Stdio::piped()).stdout(Stdio::piped());
+    let held = ENVIRONMENT.lock().unwrap();
+    let started = start.spawn();
+    drop(held);
+    let mut process = started.unwrap_or_else(|e| panic!("{command:?}: {e}"));
+    let (mut to, mut from) = (process.stdin.take().unwrap(), process.stdout.take().unwrap());
+    let mut printed = Vec::new();
+    std::thread::scope(|scope| {
+        scope.spawn(move || {
+            // a program that ends early leaves some of it: what it printed is judged, and how it ended
+            let _ = input.chunks(piece).try_for_each(|bytes| to.write_all(bytes));
+        });
+        from.read_to_end(&mut printed).unwrap();
+    });
+    (printed, process.wait().unwrap())
 }

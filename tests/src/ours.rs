@@ -1,66 +1,94 @@
-//! The calls that the crate `probe` exports, each behind a safe function. They ask nothing of their arguments.
-use crate::paper::Label;
+//! The calls that the crate `probe` exports, each made for many arguments at once: `tests/compiled/src/answers.rs` makes them.
+use crate::command::{compiled, printed, run, WHOLE};
+use independent::paper::Label;
 
-extern "C" {
-    fn probe_decode(b: u8) -> u8;
-    fn probe_encode(v: u8) -> u16;
-    fn probe_read(bytes: *const u8, length: usize, out: *mut u8, room: usize) -> u8;
-    fn probe_write(fields: *const u8, count: usize, buf: *mut u8, length: usize) -> u8;
-    fn probe_service(pil: u32) -> u8;
-    fn probe_window(pil: u32, year: u8) -> u64;
+fn ask(call: &str, questions: &[u8]) -> Vec<u8> {
+    let command = run(&[compiled("answers"), String::from(call)]);
+    let (answers, status) = printed(&command, questions, WHOLE);
+    assert!(status.success(), "{command:?}: {status}");
+    answers
 }
 
-/// The value of a byte, or none.
-pub fn decode(b: u8) -> Option<u8> {
-    let v = unsafe { probe_decode(b) };
-    (v < 16).then_some(v)
+/// As many answers as there are questions, of so many bytes each.
+fn answers<const N: usize>(call: &str, count: usize, questions: &[u8]) -> impl Iterator<Item = [u8; N]> {
+    let answers = ask(call, questions);
+    assert_eq!(answers.len(), N * count, "{call}");
+    (0..count).map(move |n| answers[N * n..N * n + N].try_into().unwrap())
 }
 
-/// The good byte of a value, or the number of the refusal.
-pub fn encode(v: u8) -> Result<u8, u8> {
-    let r = unsafe { probe_encode(v) };
-    if r < 256 {
-        Ok(r as u8)
-    } else {
-        Err((r / 256) as u8)
+/// The value of every byte, or none.
+pub fn decode_all() -> Vec<Option<u8>> {
+    let bytes: Vec<u8> = (0..=255).collect();
+    answers("decode", 256, &bytes).map(|[v]| (v < 16).then_some(v)).collect()
+}
+
+/// The good byte of every value, or the number of the refusal.
+pub fn encode_all() -> Vec<Result<u8, u8>> {
+    let values: Vec<u8> = (0..=255).collect();
+    answers("encode", 256, &values).map(|[refusal, byte]| if refusal == 0 { Ok(byte) } else { Err(refusal) }).collect()
+}
+
+/// A call that is lent bytes to read and bytes to write: the number that it answers, and the second bytes after it.
+fn lend<'a>(call: &str, lent: impl Iterator<Item = (&'a [u8], &'a [u8])>) -> Vec<(u8, Vec<u8>)> {
+    let (mut questions, mut lengths) = (Vec::new(), Vec::new());
+    for (first, second) in lent {
+        for bytes in [first, second] {
+            questions.push(u8::try_from(bytes.len()).unwrap());
+            questions.extend(bytes);
+        }
+        lengths.push(second.len());
     }
+    let answers = ask(call, &questions);
+    assert_eq!(answers.len(), lengths.iter().map(|length| 1 + length).sum::<usize>(), "{call}");
+    let mut rest = &answers[..];
+    let next = |length| {
+        let (answer, after) = rest.split_at(1 + length);
+        rest = after;
+        (answer[0], answer[1..].to_vec())
+    };
+    lengths.into_iter().map(next).collect()
 }
 
-/// The label of a packet, or the number of the refusal.
-pub fn read(bytes: &[u8]) -> Result<Label, u8> {
-    let mut out = [0u8; 13];
-    match read_into(bytes, &mut out) {
-        0 => Ok(Label::from_fields(&out)),
+/// The label of each packet, or the number of the refusal.
+pub fn read(packets: &[Vec<u8>]) -> Vec<Result<Label, u8>> {
+    let out = [0; 13];
+    let label = |(answer, fields): (u8, Vec<u8>)| match answer {
+        0 => Ok(Label::from_fields(fields[..].try_into().unwrap())),
         n => Err(n),
-    }
+    };
+    lend("read", packets.iter().map(|packet| (&packet[..], &out[..]))).into_iter().map(label).collect()
 }
 
-/// The same, into a lent buffer of any length.
-pub fn read_into(bytes: &[u8], out: &mut [u8]) -> u8 {
-    unsafe { probe_read(bytes.as_ptr(), bytes.len(), out.as_mut_ptr(), out.len()) }
+/// The same of one packet, into lent bytes of any length.
+pub fn read_into(packet: &[u8], outs: &[Vec<u8>]) -> Vec<(u8, Vec<u8>)> {
+    lend("read", outs.iter().map(|out| (packet, &out[..])))
 }
 
-/// The number that answers the writer: 0, or a refusal's.
-pub fn write(label: &Label, buf: &mut [u8]) -> u8 {
-    write_fields(&label.to_fields(), buf)
-}
-
-pub fn write_fields(fields: &[u8], buf: &mut [u8]) -> u8 {
-    unsafe { probe_write(fields.as_ptr(), fields.len(), buf.as_mut_ptr(), buf.len()) }
+/// The number that answers the writer, 0 or a refusal's, and the buffer after it.
+pub fn write(labels: &[(Label, Vec<u8>)]) -> Vec<(u8, Vec<u8>)> {
+    let fields: Vec<[u8; 13]> = labels.iter().map(|(label, _)| label.to_fields()).collect();
+    lend("write", fields.iter().zip(labels).map(|(fields, (_, buffer))| (&fields[..], &buffer[..])))
 }
 
 /// 0 programme, 1 timer-control, 2 RI/T, 3 interruption, 4 continuation, 5 no specific value.
-pub fn service(pil: u32) -> u8 {
-    unsafe { probe_service(pil) }
+pub fn service(pils: &[u32]) -> Vec<u8> {
+    let questions: Vec<u8> = pils.iter().flat_map(|pil| pil.to_be_bytes()).collect();
+    answers("service", pils.len(), &questions).map(|[service]| service).collect()
 }
 
-/// When the window of a PIL in a year opens and closes, or the number of the refusal. One number holds both seconds, and every
-/// close lies far above a refusal.
-pub fn window(pil: u32, year: u8) -> Result<(u32, u32), u8> {
-    let r = unsafe { probe_window(pil, year) };
-    if r < 256 {
-        Err(r as u8)
-    } else {
-        Ok(((r >> 32) as u32, r as u32))
+/// When the window of a PIL in a year opens and closes, or the number of the refusal.
+pub type Window = Result<(u32, u32), u8>;
+
+pub fn window(asked: &[(u32, u8)]) -> Vec<Window> {
+    let mut questions = Vec::with_capacity(5 * asked.len());
+    for (pil, year) in asked {
+        questions.extend(pil.to_be_bytes());
+        questions.push(*year);
     }
+    // one number holds both seconds, and every close lies far above a refusal
+    let window = |answer| match u64::from_be_bytes(answer) {
+        n if n < 256 => Err(n as u8),
+        n => Ok(((n >> 32) as u32, n as u32)),
+    };
+    answers("window", asked.len(), &questions).map(window).collect()
 }

@@ -1,4 +1,5 @@
 //! libzvbi: a reader that nobody here wrote.
+use crate::command::ENVIRONMENT;
 use std::os::raw::{c_int, c_uint, c_void};
 
 #[repr(C)]
@@ -17,6 +18,7 @@ struct ProgramId {
     reserved3: [c_int; 4],
 }
 
+#[link(name = "zvbi")]
 extern "C" {
     static _vbi_hamm8_inv: [i8; 256];
     fn vbi_decode_teletext_8302_pdc(pid: *mut ProgramId, buffer: *const u8) -> c_int;
@@ -62,6 +64,8 @@ pub fn read(packet: &[u8; 42]) -> Option<Pid> {
 
 /// What libzvbi gives as the window of a PIL near a time, all as Unix time in UTC; none where it refuses.
 pub fn window(pil: u32, near: i64) -> Option<(i64, i64)> {
+    // it sets the time zone for as long as a call takes
+    let _held = ENVIRONMENT.lock().unwrap();
     let (mut begin, mut end) = (0, 0);
     let given = unsafe { vbi_pil_lto_validity_window(&mut begin, &mut end, pil, near, 0) };
     (given != 0).then_some((begin, end))

@@ -1,13 +1,18 @@
 //! Windows: beside an independent calendar and beside libzvbi.
-use against_the_world::calendar::{self, END};
-use against_the_world::random::Random;
 use against_the_world::{ours, zvbi};
+use independent::calendar::{self, END};
+use independent::random::Random;
 
 /// Unix time of the clock's 0.
 const START: i64 = 946_684_800;
 
-fn same(pil: u32, year: u8) {
-    assert_eq!(ours::window(pil, year), calendar::window(pil, year), "PIL {pil:05X} in year {year}");
+/// The windows of these PILs in these years are the independent calendar's; how many they are.
+fn same(asked: impl Iterator<Item = (u32, u8)>) -> usize {
+    let asked: Vec<_> = asked.collect();
+    for (&(pil, year), own) in asked.iter().zip(ours::window(&asked)) {
+        assert_eq!(own, calendar::window(pil, year), "PIL {pil:05X} in year {year}");
+    }
+    asked.len()
 }
 
 /// Year, month and day of every date. The clock's last four hours belong to the windows of the day before.
@@ -17,57 +22,45 @@ fn dates() -> impl Iterator<Item = (u8, u32, u32)> {
 
 #[test]
 fn every_real_date_and_hour() {
-    let mut real = 0;
-    for (year, month, day) in dates() {
-        for hour in 0..24 {
-            for minute in [0, (day + hour) % 60, 59] {
-                same(calendar::pil(day, month, hour, minute), year);
-                real += 1;
-            }
-        }
-    }
+    let hours = dates().flat_map(|date| (0..24).map(move |hour| (date, hour)));
+    let real = same(hours.flat_map(|((year, month, day), hour)| {
+        [0, (day + hour) % 60, 59].map(|minute| (calendar::pil(day, month, hour, minute), year))
+    }));
     assert_eq!(real, 36_525 * 24 * 3);
 }
 
 #[test]
 fn every_pil_in_years_of_each_kind() {
     for year in [0, 1, 4, 99, 100] {
-        for pil in 0..1 << 20 {
-            same(pil, year);
-        }
+        same((0..1 << 20).map(|pil| (pil, year)));
     }
 }
 
 #[test]
 fn every_date_and_hour_in_every_year() {
     // unreal days, months and hours too, and years that the clock does not have
-    for year in 0..=255 {
-        for date in 0..1 << 9 {
-            for hour in [0, 3, 4, 23, 24, 31] {
-                same(date << 11 | hour << 6 | 30, year);
-            }
-        }
-        for minute in 0..64 {
-            same(calendar::pil(28, 2, 20, minute), year);
-        }
-    }
+    let hours = (0..1 << 9).flat_map(|date| [0, 3, 4, 23, 24, 31].map(|hour| date << 11 | hour << 6 | 30));
+    let minutes = (0..64).map(|minute| calendar::pil(28, 2, 20, minute));
+    let pils: Vec<u32> = hours.chain(minutes).collect();
+    let all = same((0..=255).flat_map(|year| pils.iter().map(move |&pil| (pil, year))));
+    assert_eq!(all, 256 * (512 * 6 + 64));
 }
 
 #[test]
 fn pils_wider_than_twenty_bits() {
     let mut random = Random::new(20);
+    let mut wide = Vec::new();
     for bit in 20..32 {
         for _ in 0..2_000 {
             // real but for the bit
             let pil = calendar::pil(1 + random.below(28) as u32, 1 + random.below(12) as u32, random.below(24) as u32, 30);
             let year = random.below(100) as u8;
             assert!(calendar::window(pil, year).is_ok());
-            assert_eq!(ours::window(pil | 1 << bit, year), Err(11));
+            wide.push((pil | 1 << bit, year));
         }
     }
-    for _ in 0..500_000 {
-        same(random.next() as u32, random.byte());
-    }
+    assert_eq!(ours::window(&wide), vec![Err(11); 12 * 2_000]);
+    same((0..500_000).map(|_| (random.next() as u32, random.byte())));
 }
 
 /// The one date that libzvbi, which has no clock start, opens earlier than the clock allows.
@@ -77,23 +70,23 @@ fn opens_before_the_clock(year: u8, month: u32, day: u32, hour: u32) -> bool {
 
 #[test]
 fn every_real_date_and_hour_as_libzvbi_says() {
+    let hours: Vec<_> = dates().flat_map(|date| (0..24).map(move |hour| (date, hour))).collect();
+    let pil = |day, month, hour| calendar::pil(day, month, hour, (day + 7 * hour) % 60);
+    let asked: Vec<_> = hours.iter().map(|&((year, month, day), hour)| (pil(day, month, hour), year)).collect();
     let mut early = 0;
-    for (year, month, day) in dates() {
+    for (((year, month, day), hour), own) in hours.into_iter().zip(ours::window(&asked)) {
         // libzvbi finds the year itself, as that which brings the PIL nearest to a given time
         let near = START + 86_400 * calendar::day_number(year, month, day);
-        for hour in 0..24 {
-            let pil = calendar::pil(day, month, hour, (day + 7 * hour) % 60);
-            let (opens, closes) = ours::window(pil, year).unwrap();
-            let (begin, end) = zvbi::window(pil, near).unwrap();
-            let expected = if opens_before_the_clock(year, month, day, hour) {
-                early += 1;
-                assert_eq!(opens, 0);
-                -14_400
-            } else {
-                opens as i64
-            };
-            assert_eq!((begin - START, end - START), (expected, closes as i64), "{day}.{month}.{year} {hour}");
-        }
+        let (opens, closes) = own.unwrap();
+        let (begin, end) = zvbi::window(pil(day, month, hour), near).unwrap();
+        let expected = if opens_before_the_clock(year, month, day, hour) {
+            early += 1;
+            assert_eq!(opens, 0);
+            -14_400
+        } else {
+            opens as i64
+        };
+        assert_eq!((begin - START, end - START), (expected, closes as i64), "{day}.{month}.{year} {hour}");
     }
     assert_eq!(early, 4);
 }
@@ -120,11 +113,13 @@ fn unreal_in_libzvbi(pil: u32, year: u8, near: i64) -> Option<(i64, i64)> {
 fn what_is_not_real_beside_libzvbi() {
     let mut unreal = 0;
     for year in [0, 1] {
-        for pil in (0..1 << 20).filter(|pil| [0, 30, 59, 60, 63].contains(&(pil & 63))) {
-            if ours::window(pil, year).is_ok() {
+        let pils = (0..1 << 20).filter(|pil| [0, 30, 59, 60, 63].contains(&(pil & 63)));
+        let asked: Vec<_> = pils.map(|pil| (pil, year)).collect();
+        for (&(pil, year), own) in asked.iter().zip(ours::window(&asked)) {
+            if own.is_ok() {
                 continue;
             }
-            assert_eq!(ours::window(pil, year), Err(11));
+            assert_eq!(own, Err(11));
             let near = START + 86_400 * calendar::day_number(year, (pil >> 11 & 15).clamp(1, 12), 15);
             assert_eq!(zvbi::window(pil, near), unreal_in_libzvbi(pil, year, near), "PIL {pil:05X} in year {year}");
             unreal += 1;

@@ -1,15 +1,8 @@
 //! Times the reading of a packet: ours, libzvbi's, and the ordinary desk's. `packets` prints nanoseconds, a line for each kind of
 //! packet; `packets KIND READER COUNT` only reads, for a counter of instructions.
+use independent::{paper, random};
 use std::os::raw::{c_int, c_uint, c_void};
 use std::time::Instant;
-
-#[allow(dead_code)]
-#[path = "../../../tests/src"]
-mod shared {
-    pub mod paper;
-    pub mod random;
-}
-use shared::{paper, random};
 
 extern "C" {
     fn probe_read(bytes: *const u8, length: usize, out: *mut u8, room: usize) -> u8;

@@ -1,21 +1,10 @@
 //! Writes the sheets that are timed into a folder: `write_sheets FOLDER`.
+use independent::calendar::{day_number, pil, END};
+use independent::paper::{self, Label};
+use independent::random::Random;
+use independent::scenes::{Packet, Timer};
+use independent::sheets;
 use std::path::Path;
-
-#[allow(dead_code)]
-#[path = "../../../tests/src"]
-mod shared {
-    pub mod calendar;
-    pub mod paper;
-    pub mod random;
-    pub mod scenes;
-    pub mod sheets;
-}
-use shared::{calendar, paper, random, scenes, sheets};
-
-use calendar::{day_number, pil, END};
-use paper::Label;
-use random::Random;
-use scenes::{Packet, Timer};
 
 const NETWORKS: [u16; 4] = [0x1D65, 0x2D66, 0x3D67, 0x4D68];
 const YEAR: u8 = 26;

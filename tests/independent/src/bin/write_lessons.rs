@@ -1,13 +1,14 @@
-//! Writes the sheets of `sheets/`, with what the independent desk prints for each.
-use against_the_world::{sheet, teaching};
+//! Writes the sheets of `sheets/`, with what the independent desk prints for each:
+//! `tools/cargo --own run --manifest-path tests/independent/Cargo.toml`.
+use independent::{sheet, teaching};
 use std::{fs, path::Path};
 
 fn main() {
-    let dir = Path::new(env!("CARGO_MANIFEST_DIR")).join("../sheets");
+    let dir = Path::new(env!("CARGO_MANIFEST_DIR")).join("../../sheets");
     fs::create_dir_all(&dir).unwrap();
     let mut page = String::from(
         "# Sheets\n\nEach `NAME.sheet` is played by `./play sheets/NAME.sheet`, and prints `NAME.out`. What they hold is written out in\n\
-         `tests/src/teaching.rs`.\n\n| sheet | what it shows |\n|---|---|\n",
+         `tests/independent/src/teaching.rs`.\n\n| sheet | what it shows |\n|---|---|\n",
     );
     for lesson in teaching::lessons() {
         let bytes = lesson.sheet();

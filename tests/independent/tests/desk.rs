@@ -1,7 +1,7 @@
 //! The independent desk beside itself: every second walked, and quiet seconds skipped.
-use against_the_world::calendar::END;
-use against_the_world::calls::{self, Call};
-use against_the_world::desk::{Desk, Pace};
+use independent::calendar::END;
+use independent::calls::{self, Call};
+use independent::desk::{Desk, Pace};
 
 /// The latest time that a row of calls can bring the clock to: one past the clock's end is refused.
 fn last_time(calls: &[Call]) -> u32 {

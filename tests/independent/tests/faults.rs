@@ -1,9 +1,9 @@
 //! What is made at random bites: every fault that can be switched on in the independent desk changes what some sheet prints, or,
 //! where a sheet cannot show it, what a row of calls answers.
-use against_the_world::calls::{self, Call};
-use against_the_world::desk::{Desk, Pace};
-use against_the_world::faults::Fault;
-use against_the_world::{sheet, sheets};
+use independent::calls::{self, Call};
+use independent::desk::{Desk, Pace};
+use independent::faults::Fault;
+use independent::{sheet, sheets};
 
 /// So many sheets must catch a fault, among those that the compiled program plays.
 const CATCHES: usize = 5;
@@ -72,7 +72,8 @@ fn every_fault_is_caught() {
     });
 }
 
-/// How often each is caught: `cargo test --release --test faults -- --ignored --nocapture`, some minutes.
+/// How often each is caught, in about a minute:
+/// `tools/cargo --own test --release --manifest-path tests/independent/Cargo.toml --test faults -- --ignored --nocapture`.
 #[test]
 #[ignore]
 fn how_often_each_fault_is_caught() {

@@ -1,0 +1,138 @@
+//! Preloaded into the program, it makes one start of it play many sheets. Under an emulator a start takes longer than most sheets:
+//! the loader, the C library and the program are translated each time. Here the program's `main` is called as it stands, for each
+//! sheet in a process of its own, forked from one that has the translation.
+//!
+//! Standard input has the sheets, each behind two numbers of four bytes: how much one read gives at most, and the sheet's length.
+//! Standard output has what each prints, and after it a line with the status of its process.
+use std::fs::File;
+use std::io::{BufReader, Read, Seek, Write};
+use std::os::raw::{c_char, c_int, c_long, c_uint, c_void};
+use std::os::unix::io::{AsRawFd, FromRawFd};
+
+type Words = *const *const c_char;
+type Main = extern "C" fn(c_int, Words, Words) -> c_int;
+type Start = extern "C" fn(Main, c_int, Words, *const c_void, *const c_void, *const c_void, *const c_void) -> c_int;
+
+extern "C" {
+    fn dlsym(library: *const c_void, name: *const c_char) -> *const c_void;
+    fn dup(from: c_int) -> c_int;
+    fn dup2(from: c_int, to: c_int) -> c_int;
+    fn fork() -> c_int;
+    fn getpid() -> c_int;
+    fn kill(process: c_int, signal: c_int) -> c_int;
+    fn memfd_create(name: *const c_char, flags: c_uint) -> c_int;
+    fn syscall(number: c_long, ...) -> c_long;
+    fn waitpid(process: c_int, status: *mut c_int, flags: c_int) -> c_int;
+}
+
+const NEXT: *const c_void = -1isize as *const c_void;
+const READ: c_long = 0;
+const KILLED: c_int = 9;
+/// So many sheets are played here too, to nowhere, for the translation.
+const FIRST: usize = 8;
+
+static mut PROGRAM: Option<Main> = None;
+static mut AT_MOST: usize = usize::MAX;
+
+/// The C library's start of a program, with another `main`.
+///
+/// # Safety
+/// The program's first lines call it, once.
+#[no_mangle]
+pub unsafe extern "C" fn __libc_start_main(
+    main: Main,
+    argc: c_int,
+    argv: Words,
+    init: *const c_void,
+    fini: *const c_void,
+    loader_fini: *const c_void,
+    stack_end: *const c_void,
+) -> c_int {
+    PROGRAM = Some(main);
+    let start: Start = std::mem::transmute(dlsym(NEXT, "__libc_start_main\0".as_ptr().cast()));
+    start(play_each, argc, argv, init, fini, loader_fini, stack_end)
+}
+
+/// The C library's, which gives less where a sheet is to come in small pieces.
+///
+/// # Safety
+/// That of the C library's.
+#[no_mangle]
+pub unsafe extern "C" fn read(file: c_int, into: *mut c_void, room: usize) -> isize {
+    syscall(READ, file, into, room.min(AT_MOST)) as isize
+}
+
+extern "C" fn play_each(argc: c_int, argv: Words, env: Words) -> c_int {
+    let program = unsafe { PROGRAM.unwrap() };
+    let play = || program(argc, argv, env);
+    let (mut sheets, out) = (BufReader::new(duplicate(0)), duplicate(1));
+    let nowhere = File::create("/dev/null").unwrap();
+    let mut played = 0;
+    while let Some((at_most, bytes)) = next(&mut sheets) {
+        let mut sheet = file_of(&bytes);
+        put(&sheet, 0);
+        let ended = in_a_process(|| {
+            unsafe { AT_MOST = at_most };
+            say(&out, play());
+        });
+        if ended != KILLED {
+            say(&out, ended);
+        } else if played < FIRST {
+            sheet.rewind().unwrap();
+            put(&nowhere, 1);
+            say(&nowhere, play());
+            put(&out, 1);
+        }
+        played += 1;
+    }
+    0
+}
+
+/// The next sheet, behind how much one read gives of it.
+fn next(sheets: &mut impl Read) -> Option<(usize, Vec<u8>)> {
+    let mut number = || {
+        let mut bytes = [0; 4];
+        sheets.read_exact(&mut bytes).ok()?;
+        Some(u32::from_be_bytes(bytes) as usize)
+    };
+    let (at_most, length) = (number()?, number()?);
+    let mut bytes = vec![0; length];
+    sheets.read_exact(&mut bytes).ok()?;
+    Some((at_most, bytes))
+}
+
+/// A file without a name, to be read from its start.
+fn file_of(bytes: &[u8]) -> File {
+    let mut file = unsafe { File::from_raw_fd(memfd_create("sheet\0".as_ptr().cast(), 0)) };
+    file.write_all(bytes).unwrap();
+    file.rewind().unwrap();
+    file
+}
+
+/// Another file of what has this number.
+fn duplicate(number: c_int) -> File {
+    unsafe { File::from_raw_fd(dup(number)) }
+}
+
+/// The file has this number too, in place of what had it.
+fn put(file: &File, number: c_int) {
+    assert!(unsafe { dup2(file.as_raw_fd(), number) } == number);
+}
+
+/// The line with a status.
+fn say(mut out: &File, status: c_int) {
+    out.write_all(format!("= {status}\n").as_bytes()).unwrap();
+}
+
+/// Does some work in a process of its own, which is killed when it is done: at an exit the emulator clears all that it has
+/// translated, which takes longer than the work. Another end shows in the status.
+fn in_a_process(work: impl Fn()) -> c_int {
+    let process = unsafe { fork() };
+    if process == 0 {
+        work();
+        unsafe { kill(getpid(), KILLED) };
+    }
+    let mut status = 0;
+    assert!(process > 0 && unsafe { waitpid(process, &mut status, 0) } == process);
+    status
+}

@@ -1,0 +1,12 @@
+//! An implementation written from the paper alone, and what is made at random to hold another to it. Nothing here knows of the
+//! compiled code.
+pub mod calendar;
+pub mod calls;
+pub mod desk;
+pub mod faults;
+pub mod paper;
+pub mod random;
+pub mod scenes;
+pub mod sheet;
+pub mod sheets;
+pub mod teaching;
