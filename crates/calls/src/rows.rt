@@ -1,0 +1,132 @@
+// A row: byte 0 the call; 1 to 4 a time or a PIL; 5 and 6 a CNI; 7 a tuner, a year or a slot; 8 the length of the packet that follows.
+ghost use Prim.Native.Nat.{_≤_};
+use desk::AddAnswer;
+use desk::CancelAnswer;
+use desk::Desk;
+use desk::PacketAnswer;
+use desk::PacketRefusal;
+use desk::SecondAnswer;
+use desk::WaitAnswer;
+use label::Refusal;
+
+// What a call says: the number of its refusal or 0, and what it gives.
+pub(crate) struct Said {
+    pub(crate) number: u8,
+    pub(crate) value: u32,
+    pub(crate) desk: Desk,
+}
+
+fn saying(number: u8, value: u32, desk: Desk) -> Said {
+    Said {
+        number,
+        value,
+        desk,
+    }
+}
+
+fn pair(a: u8, b: u8) -> u16 {
+    a as u16 * 256 + b as u16
+}
+
+fn four(a: u8, b: u8, c: u8, d: u8) -> u32 {
+    pair(a, b) as u32 * 65536 + pair(c, d) as u32
+}
+
+fn unread(r: Refusal) -> u8 {
+    match r {
+        Refusal::Length => 1,
+        Refusal::AddressDamaged => 2,
+        Refusal::OtherPacket => 3,
+        Refusal::DesignationDamaged => 4,
+        Refusal::OtherDesignation => 5,
+        Refusal::LabelDamaged => 6,
+    }
+}
+
+fn refusal(r: PacketRefusal) -> u8 {
+    match r {
+        PacketRefusal::Tuner => 8,
+        PacketRefusal::Before => 9,
+        PacketRefusal::Past => 10,
+        PacketRefusal::Unread(u) => unread(u),
+        PacketRefusal::Update => 7,
+    }
+}
+
+// The packet is as long as byte 8 says, and at most what is left of the row.
+fn end_of(length: u8) -> usize
+    ensures { λ r. ⌜ (9 ≤ r) × (r ≤ 128) ⌝ }
+{
+    if length < 119 {
+        return 9 + length as usize;
+    }
+    128
+}
+
+fn packet(d: Desk, time: u32, row: [u8; 128]) -> Said {
+    let end = end_of(row[8]);
+    let heard = d.packet(row[7], time, &row[9..end]);
+    let next = heard.desk;
+    let a = heard.answer;
+    match a {
+        PacketAnswer::Refused(r) => saying(refusal(r), 0, next),
+        PacketAnswer::Done => saying(0, 0, next),
+    }
+}
+
+fn wait(d: Desk, time: u32) -> Said {
+    let waited = d.wait(time);
+    let next = waited.desk;
+    let a = waited.answer;
+    match a {
+        WaitAnswer::Before => saying(9, 0, next),
+        WaitAnswer::Past => saying(10, 0, next),
+        WaitAnswer::Walked(n) => saying(0, n, next),
+    }
+}
+
+fn add(d: Desk, cni: u16, pil: u32, year: u8) -> Said {
+    let added = d.add(cni, pil, year);
+    let next = added.desk;
+    let a = added.answer;
+    match a {
+        AddAnswer::NotReal => saying(11, 0, next),
+        AddAnswer::Ended => saying(12, 0, next),
+        AddAnswer::Held => saying(13, 0, next),
+        AddAnswer::Full => saying(14, 0, next),
+        AddAnswer::Slot(i) => saying(0, (i % 256) as u32, next),
+    }
+}
+
+fn cancel(d: Desk, slot: usize) -> Said {
+    let cancelled = d.cancel(slot);
+    let next = cancelled.desk;
+    let a = cancelled.answer;
+    match a {
+        CancelAnswer::NoTimer => saying(15, 0, next),
+        CancelAnswer::Done => saying(0, 0, next),
+    }
+}
+
+fn second(d: Desk) -> Said {
+    let passed = d.second();
+    let next = passed.desk;
+    let a = passed.answer;
+    match a {
+        SecondAnswer::Past => saying(10, 0, next),
+        SecondAnswer::Done => saying(0, 0, next),
+    }
+}
+
+// Any other call is a fresh desk. Asking is no call of a row: every answer asks each slot.
+pub(crate) fn call(d: Desk, row: [u8; 128]) -> Said {
+    let number = four(row[1], row[2], row[3], row[4]);
+    match row[0] {
+        1 => packet(d, number, row),
+        2 => wait(d, number),
+        3 => add(d, pair(row[5], row[6]), number, row[7]),
+        4 => cancel(d, row[7] as usize),
+        5 => second(d),
+        0 | 6..=255 => saying(0, 0, Desk::new()),
+    }
+}
