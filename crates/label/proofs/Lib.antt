@@ -5,6 +5,7 @@ pub mod Puts
 pub mod Digits
 pub mod Nibbles
 pub mod Places
+pub mod Sent
 pub mod Round
 pub mod Damage
 pub mod Proved

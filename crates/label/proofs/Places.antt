@@ -1,88 +1,36 @@
--- Bits at their positions and back: a number and its bits, a value and its data bits, the bits of a label that are sent.
-use Prim.Native.Nat.{ℕ, zero, suc, _+_, _*_, _/_, _%_, _^_, _<_}
+-- Bits at their positions and back: a value and its data bits, the bits of a label that are sent.
+use Prim.Native.Nat.{ℕ, zero, suc, _^_, _<_}
 use mathlib.Core.Path.{_≡_, refl, sym, ap, ap₂, subst, _∙_}
 use mathlib.Core.Bool.{Bool, true, false, cond, _&&_, _||_}
 use mathlib.Core.List.{List, [], _∷_, _++_, map}
 use native.Mathlib.Omega.{arith}
-use native.Mathlib.Nat.{pow-succ', add-mul, mul-assoc, mod-eq-of-lt}
+use native.Mathlib.Nat.{mod-eq-of-lt}
 use borrow.Author.Tests.{eqb-true, ne-eqb, ltb-true}
-use lib.Pow.{high}
-use lib.Arith.{digits-lt}
-use lib.Dec.{T, eqb, ltb, eqb→eq}
-use lib.ListN.{length, length-map}
+use lib.Dec.{eqb, ltb}
+use lib.ListN.{length}
 use Rattle.hamming.specs.Byte.{D}
-use Rattle.hamming.proofs.All.{below, each}
 use Rattle.label.specs.declared.Label.{Label}
 use Rattle.label.specs.Layout.{Field, designation, lci, luf, prf, pcs, mi, spare, cni, pil, pty, fields, Position, positions, fieldOf, labelBy, numberFrom, bitAt, fieldBy, bits, fieldBits, zip, bitsOf, lookup, sentAt, four, sentIn}
 use Rattle.label.specs.Packet.{valueFor, labelBytes}
 use Rattle.label.specs.Laws.{member}
-use Rattle.label.proofs.Digits.{of-digits}
-use Rattle.label.proofs.Nibbles.{four-small}
+use Rattle.label.proofs.Digits.{number-of-bits, number-small, bits-of-number}
+use Rattle.label.proofs.Nibbles.{low-four, four-number, four-bits, four-small}
 use Rattle.label.proofs.Every.{no-way, and-left, and-right, All, all-append, every, tested, map-same, map-all, listed, each-listed}
-
--- ── a number and its bits ──────────────────────────────────────────────────────────────────────────────────────────
--- a number of k bits is the number of these
-number-of-bits : (k n : ℕ) → n < 2 ^ k → numberFrom 0 (bits k n) ≡ n
-number-of-bits k n h = let e = mod-eq-of-lt h in of-digits k 0 n ∙ omega arith
-
-abbrev Bits : List ℕ → Type 0
-Bits bs = All (λ b. b < 2) bs
-
--- a number after m, and what the bits add to it
-parts : (bs : List ℕ) (m : ℕ) → Bits bs → (r : ℕ) × (r < 2 ^ length bs) × (numberFrom m bs ≡ m * 2 ^ length bs + r)
-parts [] m t = (0, omega arith, omega arith)
-parts (b ∷ bs) m t =
-    let p = parts bs (m * 2 + b) (t .1) in
-    let k = length bs in
-    let a = add-mul (m * 2) b (2 ^ k) in
-    let c = mul-assoc m 2 (2 ^ k) in
-    let d = ap (λ (x : ℕ). m * x) (pow-succ' 2 k) in
-    let f = pow-succ' 2 k in
-    let l : b * 2 ^ k + p .0 < 2 * 2 ^ k = digits-lt (t .0) (p .1) in
-    (b * 2 ^ k + p .0, omega arith, p .2 ∙ omega arith)
-
-number-small : (bs : List ℕ) → Bits bs → numberFrom 0 bs < 2 ^ length bs
-number-small bs t = let p = parts bs 0 t in omega (arith, p .1, p .2)
-
--- bits are those of their number
-bits-of-number : (bs : List ℕ) (m : ℕ) → Bits bs → bits (length bs) (numberFrom m bs) ≡ bs
-bits-of-number [] m t = refl
-bits-of-number (b ∷ bs) m t =
-    let p = parts bs (m * 2 + b) (t .1) in
-    let h : numberFrom (m * 2 + b) bs / 2 ^ length bs ≡ m * 2 + b = ap (λ (x : ℕ). x / 2 ^ length bs) (p .2) ∙ high (m * 2 + b) (length bs) (p .1) in
-    let q = t .0 in
-    let g : numberFrom (m * 2 + b) bs / 2 ^ length bs % 2 ≡ b = omega arith in
-    ap₂ (λ (x : ℕ) (xs : List ℕ). x ∷ xs) g (bits-of-number bs (m * 2 + b) (t .1))
 
 -- ── a value and its data bits ──────────────────────────────────────────────────────────────────────────────────────
 bit-small : (k v : ℕ) → D k v < 2
 unfolding D
 bit-small k v = omega arith
 
+pub bit-in : (v : ℕ → ℕ) (s : Position) → bitAt v s < 2
+bit-in v s = bit-small (s .1) (v (s .0))
+
 abbrev dataBits : List ℕ
 dataBits = 1 ∷ 2 ∷ 3 ∷ 4 ∷ []
 
--- the data bits of four bits are these
-four-bits : (g : ℕ → ℕ) → ((k : ℕ) → g k < 2) → All (λ k. D k (four (g 1) (g 2) (g 3) (g 4)) ≡ g k) dataBits
-unfolding D
-four-bits g h =
-    let h₁ = h 1 in
-    let h₂ = h 2 in
-    let h₃ = h 3 in
-    let h₄ = h 4 in
-    (omega arith, (omega arith, (omega arith, (omega arith, tt))))
-
-same-value : ℕ → Bool
-same-value v = eqb (four (D 1 v) (D 2 v) (D 3 v) (D 4 v)) v
-
-all-same-value : T (below same-value 16)
-unfolding same-value D
-all-same-value = tt
-
 -- a value is that of its data bits
 pub four-of : (v : ℕ) → v < 16 → four (D 1 v) (D 2 v) (D 3 v) (D 4 v) ≡ v
-unfolding same-value
-four-of v h = eqb→eq (four (D 1 v) (D 2 v) (D 3 v) (D 4 v)) v (each same-value 16 all-same-value v h)
+four-of v h = sym (low-four v ∙ four-number (D 4 v) (D 3 v) (D 2 v) (D 1 v)) ∙ mod-eq-of-lt h
 
 -- ── fields and positions ───────────────────────────────────────────────────────────────────────────────────────────
 -- what holds of the listed fields holds of each
@@ -149,7 +97,7 @@ table-small l [] = tt
 table-small l (f ∷ fs) =
     all-append (λ e. e .1 < 2) (zip (positions f) (fieldBits l f)) (bitsOf l fs) (zip-small (positions f) (length (positions f)) (fieldOf f l)) (table-small l fs)
 
-sent-small : (l : Label) (s : Position) → sentAt l s < 2
+pub sent-small : (l : Label) (s : Position) → sentAt l s < 2
 sent-small l s = lookup-small s (bitsOf l fields) (table-small l fields)
 
 -- what is sent in a byte is a value
@@ -169,8 +117,10 @@ value-sent l i m = let h = ltb-true 1 i (each-listed (ltb 1) sentBytes refl i m)
 
 bit-sent : (l : Label) (i k : ℕ) → member i sentBytes ≡ true → member k dataBits ≡ true → D k (valueFor l i) ≡ sentAt l (i, k)
 bit-sent l i k m n =
-    ap (D k) (value-sent l i m)
-    ∙ listed (λ k. D k (sentIn l i) ≡ sentAt l (i, k)) dataBits (four-bits (λ k. sentAt l (i, k)) (λ k. sent-small l (i, k))) k n
+    let s = sentAt l in
+    let small = sent-small l in
+    let p = four-bits (s (i, 1)) (s (i, 2)) (s (i, 3)) (s (i, 4)) (small (i, 1)) (small (i, 2)) (small (i, 3)) (small (i, 4)) in
+    ap (D k) (value-sent l i m) ∙ listed (λ k. D k (sentIn l i) ≡ s (i, k)) dataBits (p .0, (p .1, (p .2, (p .3, tt)))) k n
 
 -- a field that fits is the number of the bits that are sent
 pub field-back : (l : Label) (f : Field) → fieldOf f l < 2 ^ length (positions f) → fieldBy (valueFor l) f ≡ fieldOf f l
@@ -202,22 +152,14 @@ has-all P (t ∷ ts) a s m = go (eqb (s .0) (t .0)) (eqb (s .1) (t .1)) refl ref
     go false y d e h k = k h
 
 module _ (v : ℕ → ℕ) where
-  field-bits : (f : Field) → Bits (map (bitAt v) (positions f))
-  field-bits f = go (positions f)
-    where
-      go : (ss : List Position) → Bits (map (bitAt v) ss)
-      go [] = tt
-      go (s ∷ ss) = (bit-small (s .1) (v (s .0)), go ss)
-
   -- the bits of a field that was read are those at its positions
   bits-back : (f : Field) → fieldBits (labelBy (fieldBy v)) f ≡ map (bitAt v) (positions f)
   bits-back f =
       ap (bits (length (positions f))) (field-of (fieldBy v) f)
-      ∙ ap (λ (k : ℕ). bits k (fieldBy v f)) (sym (length-map (positions f) (bitAt v)))
-      ∙ bits-of-number (map (bitAt v) (positions f)) 0 (field-bits f)
+      ∙ bits-of-number (bitAt v) (bit-in v) (positions f) 0
 
   pub field-fits : (f : Field) → fieldOf f (labelBy (fieldBy v)) < 2 ^ length (positions f)
-  field-fits f = rw (field-of (fieldBy v) f) (rw (length-map (positions f) (bitAt v)) at (number-small (map (bitAt v) (positions f)) (field-bits f)))
+  field-fits f = rw (field-of (fieldBy v) f) (number-small (bitAt v) (bit-in v) (positions f))
 
   -- every bit of these bytes is a field's, and is sent again
   sent-back : (s : Position) → has s (join fields) ≡ true → sentAt (labelBy (fieldBy v)) s ≡ bitAt v s

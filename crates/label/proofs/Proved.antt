@@ -101,6 +101,7 @@ laws = record {
   no-specific-value = unfold serviceOf in refl;
   programme = programme;
   read-unique = λ p. numbered readingAnswer reading reading-back (readingOf p);
+  number-unique = λ r. equation (refusalNumber r);
   write-unique =
       λ l p.
       paired (λ w. writtenNumber w ≡ number (writingOf l p)) (λ q. q ≡ after p (writingOf l p)) (numbered writtenNumber outcome outcome-back (number (writingOf l p)))

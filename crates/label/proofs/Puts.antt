@@ -59,7 +59,7 @@ abbrev pub run : ℕ → ℕ → List ℕ
 run a zero = []
 run a (suc n) = run a n ++ ((a + n) ∷ [])
 
-run-more : (a i : ℕ) → a ≤ i → run a (i + 1 - a) ≡ run a (i - a) ++ (i ∷ [])
+pub run-more : (a i : ℕ) → a ≤ i → run a (i + 1 - a) ≡ run a (i - a) ++ (i ∷ [])
 run-more a i h =
     let e : i + 1 - a ≡ suc (i - a) = omega arith in
     let g : a + (i - a) ≡ i = omega arith in

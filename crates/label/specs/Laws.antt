@@ -8,9 +8,10 @@ use lib.ListN.{length, getD}
 use Rattle.hamming.specs.Answer.{Answer, refused, given, after, number, Unique}
 use Rattle.hamming.specs.Byte.{good, distance}
 use Rattle.label.specs.declared.Label.{Label}
+use Rattle.label.specs.declared.Refusal.{Refusal}
 use Rattle.label.specs.declared.Written.{Written}
 use Rattle.label.specs.declared.pil.Service.the-variants.{Programme, TimerControl, InhibitTerminate, Interruption, Continuation, NoSpecificValue}
-use Rattle.label.specs.Packet.{readingAnswer, readingOf, writtenNumber, writingOf, put, valueAt, hammingBytes}
+use Rattle.label.specs.Packet.{refusalNumber, readingAnswer, readingOf, writtenNumber, writingOf, put, valueAt, hammingBytes}
 use Rattle.label.specs.Pil.{partsOf, serviceOf}
 
 abbrev pub member : ℕ → List ℕ → Bool
@@ -71,6 +72,7 @@ pub record Laws : Type 0 where
       (pil ≡ 0b00000_1111_11101_111111 → ⊥) → (pil ≡ 0b00000_1111_11100_111111 → ⊥) → (pil ≡ 0b11111_1111_11111_111111 → ⊥) → serviceOf pil ≡ Programme
   -- each call's promise allows one outcome
   pub read-unique : (p : List ℕ) → Unique (λ r. readingAnswer r ≡ readingOf p)
+  pub number-unique : (r : Refusal) → Unique (λ n. n ≡ refusalNumber r)
   pub write-unique : (l : Label) (p : List ℕ) →
       Unique {A = Written × List ℕ} (λ o. (writtenNumber (o .0) ≡ number (writingOf l p)) × (o .1 ≡ after p (writingOf l p)))
   pub parts-unique : (pil : ℕ) → Unique (λ r. r ≡ partsOf pil)

@@ -2,6 +2,7 @@
 ghost use mathlib.Core.Path.{_≡_};
 ghost use mathlib.Core.Bool.{true};
 ghost use Rattle.label.specs.Laws.{Laws};
+ghost use Rattle.label.specs.Packet.{refusalNumber};
 
 pub mod pil; // the parts of a PIL, and the service codes
 pub mod reader; // from bytes to a label
@@ -28,6 +29,22 @@ pub enum Refusal {
     DesignationDamaged,
     OtherDesignation,
     LabelDamaged,
+}
+
+impl Refusal {
+    // The paper's number.
+    pub fn number(self) -> u8
+        ensures { λ n. ⌜ n ≡ refusalNumber self ⌝ }
+    {
+        match self {
+            Refusal::Length => 1,
+            Refusal::AddressDamaged => 2,
+            Refusal::OtherPacket => 3,
+            Refusal::DesignationDamaged => 4,
+            Refusal::OtherDesignation => 5,
+            Refusal::LabelDamaged => 6,
+        }
+    }
 }
 
 pub enum Reading {

@@ -1,20 +1,21 @@
 // A packet's bytes read into a label.
 ghost use mathlib.Core.Path.{_≡_};
 ghost use mathlib.Core.List.{_∷_, []};
-ghost use Prim.Native.Nat.{_%_, _<_};
-ghost use lib.ListN.{length, getD, set, replicate};
+ghost use Prim.Native.Nat.{ℕ, _<_};
+ghost use lib.ListN.{length};
 ghost use Rattle.hamming.specs.Byte.{D, nibbleOf};
-ghost use Rattle.label.specs.Layout.{numberFrom, fieldBy, labelBy, cni, pil, pty};
-ghost use Rattle.label.specs.Packet.{valueOf, valueAt, damagedAt, any, labelBytes, put, readingAnswer, readingOf};
+ghost use Rattle.label.specs.Layout.{numberFrom, bitAt, fieldBy, labelBy};
+ghost use Rattle.label.specs.Number.{numberBy};
+ghost use Rattle.label.specs.Packet.{valueOf, valueAt, damagedAt, any, labelBytes, readingAnswer, readingOf};
 use crate::Label;
 use crate::Reading;
 use crate::Refusal;
 use hamming::Nibble;
 
-// The values of the bytes, each at its byte's number, and whether one of bytes 9 to 21 is damaged.
-struct Values {
+// Bytes 9 to 21 as one number of 52 bits, the first sent highest, and whether one of them is damaged.
+struct Sent {
     damaged: bool,
-    at: [u8; 22],
+    number: u64,
 }
 
 // 16 for a damaged byte.
@@ -28,92 +29,62 @@ fn value(b: u8) -> u8
     }
 }
 
-// The two bits of a nibble that are sent first, as a number.
-fn front(v: u8) -> u8
-    ensures { λ r. ⌜ (r ≡ numberFrom 0 (D 1 v ∷ D 2 v ∷ [])) × (r < 4) ⌝ }
+// Each value with its bits in the other order: 'Here D1 is the highest bit of the nibble.'
+const TURNED: [u8; 16] = [0, 8, 4, 12, 2, 10, 6, 14, 1, 9, 5, 13, 3, 11, 7, 15];
+
+// The four bits of a nibble as a number, the first sent highest.
+pub(crate) fn turned(v: u8) -> u8
+    ensures { λ r. ⌜ (r ≡ numberFrom 0 (D 1 v ∷ D 2 v ∷ D 3 v ∷ D 4 v ∷ [])) × (r < 16) ⌝ }
 {
-    v % 2 * 2 + v / 2 % 2
+    TURNED[(v % 16) as usize]
 }
 
-// The two bits of a nibble that are sent last, as a number.
-fn back(v: u8) -> u8
-    ensures { λ r. ⌜ (r ≡ numberFrom 0 (D 3 v ∷ D 4 v ∷ [])) × (r < 4) ⌝ }
-{
-    v / 4 % 2 * 2 + v / 8 % 2
-}
-
-fn third(v: u8) -> u8
-    ensures { λ r. ⌜ r ≡ numberFrom 0 (D 3 v ∷ []) ⌝ }
-{
-    v / 4 % 2
-}
-
-fn fourth(v: u8) -> u8
-    ensures { λ r. ⌜ r ≡ numberFrom 0 (D 4 v ∷ []) ⌝ }
-{
-    v / 8 % 2
-}
-
-fn cni_of(at: [u8; 22]) -> u16
-    ensures { λ r. ⌜ r ≡ fieldBy (λ i. getD at i 0) cni ⌝ }
-{
-    let country = front(at[11]) * 64 + back(at[11]) * 16 + back(at[17]) * 4 + front(at[18]);
-    let network = front(at[12]) * 64 + back(at[18]) * 16 + front(at[19]) * 4 + back(at[19]);
-    country as u16 * 256 + network as u16
-}
-
-fn pil_of(at: [u8; 22]) -> u32
-    ensures { λ r. ⌜ r ≡ fieldBy (λ i. getD at i 0) pil ⌝ }
-{
-    let first = back(at[12]) * 16 + front(at[13]) * 4 + back(at[13]);
-    let middle = front(at[14]) * 64 + back(at[14]) * 16 + front(at[15]) * 4 + back(at[15]);
-    let last = front(at[16]) * 16 + back(at[16]) * 4 + front(at[17]);
-    first as u32 * 16384 + middle as u32 * 64 + last as u32
-}
-
-fn pty_of(at: [u8; 22]) -> u8
-    ensures { λ r. ⌜ r ≡ fieldBy (λ i. getD at i 0) pty ⌝ }
-{
-    front(at[20]) * 64 + back(at[20]) * 16 + front(at[21]) * 4 + back(at[21])
-}
-
-fn label_of(at: [u8; 22]) -> Label
-    ensures { λ r. ⌜ r ≡ labelBy (fieldBy (λ i. getD at i 0)) ⌝ }
-{
-    let cni = cni_of(at);
-    let pil = pil_of(at);
-    let pty = pty_of(at);
-    Label {
-        designation: at[2] % 16,
-        lci: front(at[9]),
-        luf: third(at[9]),
-        prf: fourth(at[9]),
-        pcs: front(at[10]),
-        mi: third(at[10]),
-        spare: fourth(at[10]),
-        cni: cni,
-        pil: pil,
-        pty: pty,
-    }
-}
-
-fn label_values(bytes: &[u8], designation: u8) -> Values
+fn nibbles(bytes: &[u8]) -> Sent
     requires { ⌜ length (now bytes) ≡ 42 ⌝ }
-    ensures { λ r. ⌜ (r .damaged ≡ any (damagedAt (now (bytes .entry))) labelBytes) × (r .at ≡ put (valueAt (now (bytes .entry))) labelBytes (set (replicate 22 0) 2 designation)) ⌝ }
+    ensures { λ r. ⌜ (r .damaged ≡ any (damagedAt (now (bytes .entry))) labelBytes) × (r .number ≡ numberBy (bitAt (valueAt (now (bytes .entry)))) labelBytes) ⌝ }
 {
-    let mut at = [0u8; 22];
-    at[2] = designation;
+    let mut number: u64 = 0;
     let mut damaged = false;
     let mut i: usize = 9;
     while i < 22 {
         let v = value(bytes[i]);
         damaged = damaged | (15 < v);
-        at[i] = v;
+        number = number * 16 + turned(v) as u64;
         i += 1;
     }
-    Values {
+    Sent {
         damaged: damaged,
-        at: at,
+        number: number,
+    }
+}
+
+// Each field is a run of the 52 bits; the CNI is four, and the PIL stands among them.
+fn label_of(designation: u8, number: u64) -> Label
+    requires { ⌜ designation < 16 ⌝ }
+    ensures { λ r. ⌜ ((v : ℕ → ℕ) → designation ≡ v 2 → number ≡ numberBy (bitAt v) labelBytes → r ≡ labelBy (fieldBy v)) ⌝ }
+{
+    let lci = ((number >> 50) % 4) as u8;
+    let luf = ((number >> 49) % 2) as u8;
+    let prf = ((number >> 48) % 2) as u8;
+    let pcs = ((number >> 46) % 4) as u8;
+    let mi = ((number >> 45) % 2) as u8;
+    let spare = ((number >> 44) % 2) as u8;
+    let country = (number >> 40) % 16 * 16 + (number >> 14) % 16;
+    let network = (number >> 38) % 4 * 64 + (number >> 8) % 64;
+    let cni = (country * 256 + network) as u16;
+    let pil = ((number >> 18) % 1048576) as u32;
+    let pty = (number % 256) as u8;
+    Label {
+        designation,
+        lci,
+        luf,
+        prf,
+        pcs,
+        mi,
+        spare,
+        cni,
+        pil,
+        pty,
     }
 }
 
@@ -139,11 +110,10 @@ pub fn read(bytes: &[u8]) -> Reading
     if !((v2 == 2) | (v2 == 3)) {
         return Reading::Refused(Refusal::OtherDesignation);
     }
-    let values = label_values(bytes, v2);
-    if values.damaged {
+    let label = nibbles(bytes);
+    if label.damaged {
         return Reading::Refused(Refusal::LabelDamaged);
     }
-    let at = values.at;
-    let l = label_of(at);
+    let l = label_of(v2, label.number);
     Reading::Read(l)
 }

@@ -1,14 +1,14 @@
 // A label written into a packet's bytes.
 ghost use mathlib.Core.Path.{_≡_};
 ghost use mathlib.Core.List.{_∷_, []};
-ghost use Prim.Native.Nat.{_%_};
 ghost use lib.ListN.{length};
 ghost use Rattle.hamming.specs.Answer.{number, after};
-ghost use Rattle.hamming.specs.Byte.{good};
-ghost use Rattle.label.specs.Layout.{four};
-ghost use Rattle.label.specs.Packet.{unfit, put, byteFor, writtenNumber, writingOf};
+ghost use Rattle.label.specs.Layout.{sentAt};
+ghost use Rattle.label.specs.Number.{numberBy};
+ghost use Rattle.label.specs.Packet.{unfit, put, byteFor, labelBytes, writtenNumber, writingOf};
 use crate::Label;
 use crate::Written;
+use crate::reader::turned;
 
 fn too_wide(l: Label) -> bool
     ensures { λ r. ⌜ r ≡ unfit l ⌝ }
@@ -23,54 +23,39 @@ fn too_wide(l: Label) -> bool
         | !((l.designation == 2) | (l.designation == 3))
 }
 
-// The byte whose data bits are the lowest bits of four numbers, D1 first.
-fn coded(d1: u32, d2: u32, d3: u32, d4: u32) -> u8
-    ensures { λ r. ⌜ r ≡ good (four (d1 % 2) (d2 % 2) (d3 % 2) (d4 % 2)) ⌝ }
+// The bits of bytes 9 and 10 as one number, the first sent highest.
+fn flags(l: Label) -> u8
+    ensures { λ r. ⌜ r ≡ numberBy (sentAt l) (9 ∷ 10 ∷ []) ⌝ }
 {
-    let v = d1 % 2 + d2 % 2 * 2 + d3 % 2 * 4 + d4 % 2 * 8;
-    hamming::good_byte(v as u8)
+    let nine = (l.lci % 4 * 2 + l.luf % 2) * 2 + l.prf % 2;
+    let ten = (l.pcs % 4 * 2 + l.mi % 2) * 2 + l.spare % 2;
+    nine * 16 + ten
 }
 
-// Address, designation and flags.
-fn fill_flags(l: Label, buf: &mut [u8])
-    requires { ⌜ length (now buf) ≡ 42 ⌝ }
-    ensures { λ r. ⌜ now (buf .exit) ≡ put (byteFor l) (0 ∷ 1 ∷ 2 ∷ 9 ∷ 10 ∷ []) (now (buf .entry)) ⌝ }
+// The same of bytes 9 to 21. The PIL stands among the CNI's bits.
+fn number_of(l: Label) -> u64
+    ensures { λ r. ⌜ r ≡ numberBy (sentAt l) labelBytes ⌝ }
 {
-    let d = l.designation as u32;
-    let lci = l.lci as u32;
-    let pcs = l.pcs as u32;
-    buf[0] = hamming::good_byte(0);
-    buf[1] = hamming::good_byte(15);
-    buf[2] = coded(d, d / 2, d / 4, d / 8);
-    buf[9] = coded(lci / 2, lci, l.luf as u32, l.prf as u32);
-    buf[10] = coded(pcs / 2, pcs, l.mi as u32, l.spare as u32);
+    let cni = l.cni as u64;
+    let pil = l.pil as u64;
+    let pty = l.pty as u64;
+    let first = flags(l) as u64 * 64 + cni / 4096 * 4 + cni / 64 % 4;
+    let last = cni / 256 % 16 * 64 + cni % 64;
+    (first * 1048576 + pil % 1048576) * 262144 + last * 256 + pty
 }
 
-// CNI and PIL, which share bytes 12, 17 and 18.
-fn fill_codes(l: Label, buf: &mut [u8])
+// Bytes 9 to 21; byte 21 has the four lowest bits.
+fn fill(l: Label, buf: &mut [u8])
     requires { ⌜ length (now buf) ≡ 42 ⌝ }
-    ensures { λ r. ⌜ now (buf .exit) ≡ put (byteFor l) (11 ∷ 12 ∷ 13 ∷ 14 ∷ 15 ∷ 16 ∷ 17 ∷ 18 ∷ 19 ∷ []) (now (buf .entry)) ⌝ }
+    ensures { λ r. ⌜ now (buf .exit) ≡ put (byteFor l) labelBytes (now (buf .entry)) ⌝ }
 {
-    let cni = l.cni as u32;
-    let pil = l.pil;
-    buf[11] = coded(cni / 32768, cni / 16384, cni / 8192, cni / 4096);
-    buf[12] = coded(cni / 128, cni / 64, pil / 524288, pil / 262144);
-    buf[13] = coded(pil / 131072, pil / 65536, pil / 32768, pil / 16384);
-    buf[14] = coded(pil / 8192, pil / 4096, pil / 2048, pil / 1024);
-    buf[15] = coded(pil / 512, pil / 256, pil / 128, pil / 64);
-    buf[16] = coded(pil / 32, pil / 16, pil / 8, pil / 4);
-    buf[17] = coded(pil / 2, pil, cni / 2048, cni / 1024);
-    buf[18] = coded(cni / 512, cni / 256, cni / 32, cni / 16);
-    buf[19] = coded(cni / 8, cni / 4, cni / 2, cni);
-}
-
-fn fill_type(l: Label, buf: &mut [u8])
-    requires { ⌜ length (now buf) ≡ 42 ⌝ }
-    ensures { λ r. ⌜ now (buf .exit) ≡ put (byteFor l) (20 ∷ 21 ∷ []) (now (buf .entry)) ⌝ }
-{
-    let pty = l.pty as u32;
-    buf[20] = coded(pty / 128, pty / 64, pty / 32, pty / 16);
-    buf[21] = coded(pty / 8, pty / 4, pty / 2, pty);
+    let number = number_of(l);
+    let mut i: usize = 9;
+    while i < 22 {
+        let nibble = (number >> (84 - 4 * i)) % 16;
+        buf[i] = hamming::good_byte(turned(nibble as u8));
+        i += 1;
+    }
 }
 
 // The label in a packet of 42 bytes; a refusal leaves every byte as it was.
@@ -84,8 +69,9 @@ pub fn write(l: Label, buf: &mut [u8]) -> Written
     if unfit {
         return Written::TooWide;
     }
-    fill_flags(l, buf);
-    fill_codes(l, buf);
-    fill_type(l, buf);
+    buf[0] = hamming::good_byte(0);
+    buf[1] = hamming::good_byte(15);
+    buf[2] = hamming::good_byte(l.designation);
+    fill(l, buf);
     Written::Done
 }

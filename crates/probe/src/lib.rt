@@ -3,7 +3,7 @@ ghost use mathlib.Core.Path.{_≡_};
 ghost use Prim.Native.Nat.{_*_, _+_};
 ghost use Rattle.hamming.specs.Answer.{number, after};
 ghost use Rattle.hamming.specs.Byte.{nibbleOf, codingOf};
-ghost use Rattle.label.specs.Packet.{valueOf, refusalNumber};
+ghost use Rattle.label.specs.Packet.{valueOf};
 ghost use Rattle.label.specs.Pil.{serviceOf};
 ghost use Rattle.calendar.specs.Calendar.{windowIn};
 ghost use lib.ListN.{length};
@@ -13,7 +13,6 @@ use hamming::Coded;
 use hamming::Nibble;
 use label::Label;
 use label::Reading;
-use label::Refusal;
 use label::Written;
 use label::pil::Service;
 
@@ -37,19 +36,6 @@ pub extern "C" fn probe_encode(v: u8) -> u16
     match c {
         Coded::TooWide => 4096,
         Coded::Byte(b) => b as u16,
-    }
-}
-
-fn number_of(r: Refusal) -> u8
-    ensures { λ n. ⌜ n ≡ refusalNumber r ⌝ }
-{
-    match r {
-        Refusal::Length => 1,
-        Refusal::AddressDamaged => 2,
-        Refusal::OtherPacket => 3,
-        Refusal::DesignationDamaged => 4,
-        Refusal::OtherDesignation => 5,
-        Refusal::LabelDamaged => 6,
     }
 }
 
@@ -81,7 +67,7 @@ pub extern "C" fn probe_read(bytes: &[u8], out: &mut [u8]) -> u8
     }
     let r = label::reader::read(bytes);
     match r {
-        Reading::Refused(why) => number_of(why),
+        Reading::Refused(why) => why.number(),
         Reading::Read(l) => {
             fill(l, out);
             0

@@ -3,7 +3,6 @@ ghost use Prim.Native.Nat.{_+_, _-_, _*_, _≤_};
 ghost use mathlib.Core.Path.{_≡_};
 ghost use lib.ListN.{length, take};
 ghost use lib.Seq.{sets};
-ghost use Rattle.label.specs.Packet.{refusalNumber};
 ghost use Rattle.desk.specs.Numbers.{packetRefusal, packetNumber};
 ghost use Rattle.sheet.specs.Sheet.{timerTold, timerLeft, packetTold, packetLeft};
 ghost use Rattle.sheet.specs.Pieces.{need, timersLeft, packetsLeft, deskAfter, stageAfter, told, longest};
@@ -13,7 +12,6 @@ use crate::lines::timer_line;
 use desk::Desk;
 use desk::PacketAnswer;
 use desk::PacketRefusal;
-use label::Refusal;
 
 // 'Numbers have the high byte first.'
 fn pair(a: u8, b: u8) -> u16
@@ -34,19 +32,6 @@ fn four(a: u8, b: u8, c: u8, d: u8) -> u32
     triple(a, b, c) * 256 + d as u32
 }
 
-fn refusal_number(r: Refusal) -> u32
-    ensures { λ n. ⌜ n ≡ refusalNumber r ⌝ }
-{
-    match r {
-        Refusal::Length => 1,
-        Refusal::AddressDamaged => 2,
-        Refusal::OtherPacket => 3,
-        Refusal::DesignationDamaged => 4,
-        Refusal::OtherDesignation => 5,
-        Refusal::LabelDamaged => 6,
-    }
-}
-
 fn packet_refusal(r: PacketRefusal) -> u32
     ensures { λ n. ⌜ n ≡ packetRefusal r ⌝ }
 {
@@ -54,7 +39,7 @@ fn packet_refusal(r: PacketRefusal) -> u32
         PacketRefusal::Tuner => 8,
         PacketRefusal::Before => 9,
         PacketRefusal::Past => 10,
-        PacketRefusal::Unread(u) => refusal_number(u),
+        PacketRefusal::Unread(u) => u.number() as u32,
         PacketRefusal::Update => 7,
     }
 }

@@ -15,8 +15,8 @@ read-requires c κs = search needs
 enum-known-r : tie.Need-enum-known-r
 enum-known-r c = search needs
 
-number-of-requires : tie.Need-number-of-requires
-number-of-requires c κs = search needs
+number-requires : tie.Need-number-requires
+number-requires c κs = search needs
 
 enum-known-r-2 : tie.Need-enum-known-r-2
 enum-known-r-2 c = search needs
@@ -30,7 +30,7 @@ returns-2 c =
     let a = read .before .before .before .before .args in
     let e = sym (ap readingAnswer (c .before .before .r .given .1)) ∙ read .read .ensures in
     let t = as-both (a .out .now) (read-through (a .bytes .now) (a .out .now) _ (read .before .if1 .left) e) in
-    (c .number-of .ensures ∙ t .0, t .1)
+    (c .number .ensures ∙ t .0, t .1)
 
 same-length : tie.Need-same-length
 same-length c = search needs
@@ -50,7 +50,7 @@ probe-read-spec =
     returns
     read-requires
     enum-known-r
-    number-of-requires
+    number-requires
     enum-known-r-2
     fill-requires
     returns-2

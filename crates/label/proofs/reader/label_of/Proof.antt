@@ -1,83 +1,93 @@
--- `label_of` fills in each field; the lowest four bits of byte 2 are the number of its data bits.
+-- `label_of` takes each field from its place among the 52 bits.
 use borrow.Author.Needs.{needs}
-use Rattle.label.proofs.Nibbles.{low-four}
+use Prim.Native.Nat.{ℕ, _%_}
+use mathlib.Core.Path.{sym, ap, _∙_}
+use native.Mathlib.Nat.{div-one}
+use native.Mathlib.Omega.{arith}
+use Rattle.label.specs.Layout.{bitAt}
+use Rattle.label.proofs.Places.{bit-in, designation-of}
+use Rattle.label.proofs.Sent.{run-of, cni-of}
 use Rattle.label.proofs.reader.label_of.Statement.{statement}
 use Rattle.label.proofs.reader.label_of.Tie as tie
 
-cni-of-requires : tie.Need-cni-of-requires
-cni-of-requires c κs = search needs
+cast-lci : tie.Need-cast-lci
+cast-lci c = record { fits = omega arith }
 
-pil-of-requires : tie.Need-pil-of-requires
-pil-of-requires c κs = search needs
+cast-luf : tie.Need-cast-luf
+cast-luf c = record { fits = omega arith }
 
-pty-of-requires : tie.Need-pty-of-requires
-pty-of-requires c κs = search needs
+cast-prf : tie.Need-cast-prf
+cast-prf c = record { fits = omega arith }
 
-array-read-t9 : tie.Need-array-read-t9
-array-read-t9 c = search needs
+cast-pcs : tie.Need-cast-pcs
+cast-pcs c = record { fits = omega arith }
 
-array-read-front : tie.Need-array-read-front
-array-read-front c = search needs
+cast-mi : tie.Need-cast-mi
+cast-mi c = record { fits = omega arith }
 
-front-requires : tie.Need-front-requires
-front-requires c κs = search needs
+cast-spare : tie.Need-cast-spare
+cast-spare c = record { fits = omega arith }
 
-array-read-third : tie.Need-array-read-third
-array-read-third c = search needs
+mul-country : tie.Need-mul-country
+mul-country c = record { fits = omega arith }
 
-third-requires : tie.Need-third-requires
-third-requires c κs = search needs
+add-country : tie.Need-add-country
+add-country c = record { fits = omega arith }
 
-array-read-fourth : tie.Need-array-read-fourth
-array-read-fourth c = search needs
+mul-network : tie.Need-mul-network
+mul-network c = record { fits = omega arith }
 
-fourth-requires : tie.Need-fourth-requires
-fourth-requires c κs = search needs
+add-network : tie.Need-add-network
+add-network c = record { fits = omega arith }
 
-array-read-front-2 : tie.Need-array-read-front-2
-array-read-front-2 c = search needs
+mul-cni : tie.Need-mul-cni
+mul-cni c = record { fits = omega arith }
 
-front-requires-2 : tie.Need-front-requires-2
-front-requires-2 c κs = search needs
+add-cni : tie.Need-add-cni
+add-cni c = record { fits = omega arith }
 
-array-read-third-2 : tie.Need-array-read-third-2
-array-read-third-2 c = search needs
+cast-cni : tie.Need-cast-cni
+cast-cni c = record { fits = omega arith }
 
-third-requires-2 : tie.Need-third-requires-2
-third-requires-2 c κs = search needs
+cast-pil : tie.Need-cast-pil
+cast-pil c = record { fits = omega arith }
 
-array-read-fourth-2 : tie.Need-array-read-fourth-2
-array-read-fourth-2 c = search needs
-
-fourth-requires-2 : tie.Need-fourth-requires-2
-fourth-requires-2 c κs = search needs
+cast-pty : tie.Need-cast-pty
+cast-pty c = record { fits = omega arith }
 
 returns : tie.Need-returns
-returns c =
-    let prf = c .before .before .before in
-    let pty = prf .before .before .before in
-    rw (c .fourth2 .ensures, c .before .third2 .ensures, c .before .before .front2 .ensures .0)
-    (rw (prf .fourth .ensures, prf .before .third .ensures, prf .before .before .front .ensures .0)
-    (rw (pty .pty-of .ensures, pty .before .pil-of .ensures, pty .before .before .cni-of .ensures, low-four)))
+returns c v d e =
+    let r = run-of (bitAt v) (bit-in v) e in
+    λ i. record {
+      designation = (d ∙ sym (designation-of v (search needs))) i;
+      lci = r 0 2 i;
+      luf = r 2 1 i;
+      prf = r 3 1 i;
+      pcs = r 4 2 i;
+      mi = r 6 1 i;
+      spare = r 7 1 i;
+      cni = cni-of v e i;
+      pil = r 14 20 i;
+      pty = (ap (λ (n : ℕ). n % 256) (sym (div-one (c .args .number))) ∙ r 44 8) i;
+    }
 
 pub label-of-spec : {M : Type 1} → statement M
 label-of-spec =
     tie.close
     (tie.spec
-    cni-of-requires
-    pil-of-requires
-    pty-of-requires
-    array-read-t9
-    array-read-front
-    front-requires
-    array-read-third
-    third-requires
-    array-read-fourth
-    fourth-requires
-    array-read-front-2
-    front-requires-2
-    array-read-third-2
-    third-requires-2
-    array-read-fourth-2
-    fourth-requires-2
+    cast-lci
+    cast-luf
+    cast-prf
+    cast-pcs
+    cast-mi
+    cast-spare
+    mul-country
+    add-country
+    mul-network
+    add-network
+    mul-cni
+    add-cni
+    cast-cni
+    cast-pil
+    cast-pty
     returns)

@@ -1,4 +1,4 @@
--- `read` refuses by the first row that applies, each of its tests being that of a row; past them the label is that of the array of values.
+-- `read` refuses by the first row that applies, each of its tests being that of a row; past them the label is that of the number of bytes 9 to 21.
 use borrow.Author.Needs.{needs}
 use Prim.Native.Nat.{ℕ}
 use mathlib.Core.Path.{_≡_, sym, ap, ap₂, _∙_}
@@ -6,10 +6,9 @@ use mathlib.Core.Bool.{Bool, true, not, _&&_, _||_}
 use mathlib.Core.List.{List}
 use borrow.Author.Tests.{lt-ltb, le-ltb}
 use lib.Dec.{ltb, eqb}
-use lib.ListN.{getD, set, replicate}
+use lib.ListN.{getD}
 use Rattle.hamming.specs.Answer.{refused, given}
-use Rattle.label.specs.Layout.{labelBy, fieldBy}
-use Rattle.label.specs.Packet.{readerRows, readingOf, labelIn, format2, valueAt, labelBytes, put}
+use Rattle.label.specs.Packet.{readerRows, readingOf, labelIn, format2, valueAt}
 use Rattle.label.proofs.Nibbles.{over}
 use Rattle.label.proofs.Rows.{Passed, testAt, numberAt, refused-at, given-past, that-length, other-length}
 use Rattle.label.proofs.reader.read.Statement.{statement}
@@ -28,7 +27,7 @@ packet-2 c = packet-1 (c .before .before .before .before)
 abbrev packet-4 : tie.After-value3 → List ℕ
 packet-4 c = packet-2 (c .before .before .before .before)
 
-abbrev packet-6 : tie.After-label-values → List ℕ
+abbrev packet-6 : tie.After-nibbles → List ℕ
 packet-6 c = packet-4 (c .before .before .before)
 
 -- each test is that of its row
@@ -61,17 +60,12 @@ passed-5 : (c : tie.Else5) → Passed 5 (readerRows (packet-4 (c .before .before
 passed-5 c = (passed-4 (c .before), sym (row-5 (c .before .before)) ∙ c .if5 .left)
 
 passed-6 : (c : tie.Else6) → Passed 6 (readerRows (packet-6 (c .before)))
-passed-6 c = (passed-5 (c .before .before), sym (c .before .label-values .ensures .0) ∙ c .if6 .left)
+passed-6 c = (passed-5 (c .before .before), sym (c .before .nibbles .ensures .0) ∙ c .if6 .left)
 
 -- and the refusal where it did
 by : (k : ℕ) (p : List ℕ) → Passed k (readerRows p) → testAt k (readerRows p) ≡ true → refused (numberAt k (readerRows p)) ≡ readingOf p
 unfolding readingOf
 by k p h e = refused-at k (readerRows p) (labelIn p) h e
-
--- the array of the values has the fields of the packet
-gathered : (p at : List ℕ) {d : ℕ} → d ≡ valueAt p 2 → at ≡ put (valueAt p) labelBytes (set (replicate 22 0) 2 d) →
-    labelBy (fieldBy (λ i. getD at i 0)) ≡ labelIn p
-gathered p at h e = rw (e, h)
 
 returns : tie.Need-returns
 returns c = by 0 (packet (c .before .before)) tt (other-length (packet (c .before .before)) (c .if1 .taken))
@@ -106,11 +100,11 @@ returns-4 c = by 3 (packet-4 (c .before)) (passed-3 (c .before .before .before))
 returns-5 : tie.Need-returns-5
 returns-5 c = by 4 (packet-4 (c .before .before)) (passed-4 (c .before)) (sym (row-5 (c .before .before)) ∙ c .if5 .taken)
 
-label-values-requires : tie.Need-label-values-requires
-label-values-requires c κs = search needs
+nibbles-requires : tie.Need-nibbles-requires
+nibbles-requires c κs = search needs
 
 returns-6 : tie.Need-returns-6
-returns-6 c = by 5 (packet-6 (c .before)) (passed-5 (c .before .before)) (sym (c .before .label-values .ensures .0) ∙ c .if6 .taken)
+returns-6 c = by 5 (packet-6 (c .before)) (passed-5 (c .before .before)) (sym (c .before .nibbles .ensures .0) ∙ c .if6 .taken)
 
 label-of-requires : tie.Need-label-of-requires
 label-of-requires c κs = search needs
@@ -118,9 +112,9 @@ label-of-requires c κs = search needs
 returns-7 : tie.Need-returns-7
 unfolding readingOf
 returns-7 c =
-    let p = packet-6 (c .before .before .before) in
-    ap given (c .label-of .ensures ∙ gathered p _ (c .before .before .before .before .before .before .value3 .ensures) (c .before .before .before .label-values .ensures .1))
-    ∙ given-past (readerRows p) (labelIn p) (passed-6 (c .before .before))
+    let p = packet-6 (c .before .before) in
+    ap given (c .label-of .ensures (valueAt p) (c .before .before .before .before .before .value3 .ensures) (c .before .before .nibbles .ensures .1))
+    ∙ given-past (readerRows p) (labelIn p) (passed-6 (c .before))
 
 pub read-spec : {M : Type 1} → statement M
 read-spec =
@@ -137,7 +131,7 @@ read-spec =
     value-requires-3
     returns-4
     returns-5
-    label-values-requires
+    nibbles-requires
     returns-6
     label-of-requires
     returns-7)

@@ -1,12 +1,16 @@
--- `write` refuses by the first row that applies; past them the three fillings together are that of every byte.
+-- `write` refuses by the first row that applies; past them every byte is that of the label.
 use borrow.Author.Needs.{needs}
 use Prim.Native.Nat.{ℕ}
 use mathlib.Core.Path.{_≡_, sym, ap, _∙_}
 use mathlib.Core.Bool.{true}
 use mathlib.Core.List.{List}
+use lib.ListN.{set, length-set}
+use Rattle.hamming.specs.Byte.{good}
 use Rattle.hamming.specs.Answer.{number, after}
 use Rattle.label.specs.declared.Label.{Label}
-use Rattle.label.specs.Packet.{writerRows, writingOf, put, byteFor, hammingBytes}
+use Rattle.label.specs.Packet.{writerRows, writingOf, put, byteFor, labelBytes, hammingBytes}
+use Rattle.label.proofs.Sent.{designation-sent}
+use Rattle.label.proofs.Puts.{stored, put-length}
 use Rattle.label.proofs.Rows.{Passed, testAt, numberAt, refused-at, given-past, that-length, other-length}
 use Rattle.label.proofs.writer.write.Statement.{statement}
 use Rattle.label.proofs.writer.write.Tie as tie
@@ -43,26 +47,46 @@ too-wide-requires c κs = search needs
 returns-2 : tie.Need-returns-2
 returns-2 c = by 1 (c .before .before .before .before) (passed-1 (c .before .before)) (sym (c .before .too-wide .ensures) ∙ c .if2 .taken)
 
-fill-flags-requires : tie.Need-fill-flags-requires
-fill-flags-requires c κs = search needs
+good-byte-requires : tie.Need-good-byte-requires
+good-byte-requires c κs = search needs
 
-fill-codes-requires : tie.Need-fill-codes-requires
-fill-codes-requires c κs = search needs
+slice-write-buf : tie.Need-slice-write-buf
+slice-write-buf c = search needs
 
-fill-type-requires : tie.Need-fill-type-requires
-fill-type-requires c κs = search needs
+good-byte-requires-2 : tie.Need-good-byte-requires-2
+good-byte-requires-2 c κs = search needs
+
+slice-write-buf-2 : tie.Need-slice-write-buf-2
+slice-write-buf-2 c = search needs
+
+good-byte-requires-3 : tie.Need-good-byte-requires-3
+good-byte-requires-3 c κs = search needs
+
+slice-write-buf-3 : tie.Need-slice-write-buf-3
+slice-write-buf-3 c = search needs
+
+fill-requires : tie.Need-fill-requires
+fill-requires c κs = search needs
 
 same-length : tie.Need-same-length
-same-length c = search needs
+same-length c = rw (c .before .before .fill .ensures, put-length) (simp length-set)
 
 returns-3 : tie.Need-returns-3
-unfolding writingOf
+unfolding writingOf byteFor
 returns-3 c =
-    let flags = c .before .before .before .before .before .before .before .before .before .before in
-    let test = flags .before .before in
+    let fill = c .before .before in
+    let byte2 = fill .before .before in
+    let byte1 = byte2 .before in
+    let byte0 = byte1 .before in
+    let test = byte0 .before in
     let s = test .before .before .before .before in
-    let e = given-past (writerRows (label s) (packet s)) (put (byteFor (label s)) hammingBytes (packet s)) (passed-2 test) in
-    (ap number e, rw (c .before .before .fill-type .ensures, c .before .before .before .before .before .before .fill-codes .ensures, flags .fill-flags .ensures) (ap (after (packet s)) e))
+    let l = label s in
+    let p = packet s in
+    let b0 = ap (set p 0) (byte0 .good-byte .ensures) in
+    let b1 = stored 1 b0 (byte1 .good-byte2 .ensures) in
+    let b2 = stored 2 b1 (byte2 .good-byte3 .ensures ∙ ap good (designation-sent l)) in
+    let e = given-past (writerRows l p) (put (byteFor l) hammingBytes p) (passed-2 test) in
+    (ap number e, fill .fill .ensures ∙ ap (put (byteFor l) labelBytes) b2 ∙ ap (after p) e)
 
 pub write-spec : {M : Type 1} → statement M
 write-spec =
@@ -71,8 +95,12 @@ write-spec =
     returns
     too-wide-requires
     returns-2
-    fill-flags-requires
-    fill-codes-requires
-    fill-type-requires
+    good-byte-requires
+    slice-write-buf
+    good-byte-requires-2
+    slice-write-buf-2
+    good-byte-requires-3
+    slice-write-buf-3
+    fill-requires
     same-length
     returns-3)
