@@ -3,11 +3,8 @@ ghost use Prim.Native.Nat.{_≤_};
 use desk::AddAnswer;
 use desk::CancelAnswer;
 use desk::Desk;
-use desk::PacketAnswer;
-use desk::PacketRefusal;
 use desk::SecondAnswer;
 use desk::WaitAnswer;
-use label::Refusal;
 
 // What a call says: the number of its refusal or 0, and what it gives.
 pub(crate) struct Said {
@@ -32,27 +29,6 @@ fn four(a: u8, b: u8, c: u8, d: u8) -> u32 {
     pair(a, b) as u32 * 65536 + pair(c, d) as u32
 }
 
-fn unread(r: Refusal) -> u8 {
-    match r {
-        Refusal::Length => 1,
-        Refusal::AddressDamaged => 2,
-        Refusal::OtherPacket => 3,
-        Refusal::DesignationDamaged => 4,
-        Refusal::OtherDesignation => 5,
-        Refusal::LabelDamaged => 6,
-    }
-}
-
-fn refusal(r: PacketRefusal) -> u8 {
-    match r {
-        PacketRefusal::Tuner => 8,
-        PacketRefusal::Before => 9,
-        PacketRefusal::Past => 10,
-        PacketRefusal::Unread(u) => unread(u),
-        PacketRefusal::Update => 7,
-    }
-}
-
 // The packet is as long as byte 8 says, and at most what is left of the row.
 fn end_of(length: u8) -> usize
     ensures { λ r. ⌜ (9 ≤ r) × (r ≤ 128) ⌝ }
@@ -68,10 +44,7 @@ fn packet(d: Desk, time: u32, row: [u8; 128]) -> Said {
     let heard = d.packet(row[7], time, &row[9..end]);
     let next = heard.desk;
     let a = heard.answer;
-    match a {
-        PacketAnswer::Refused(r) => saying(refusal(r), 0, next),
-        PacketAnswer::Done => saying(0, 0, next),
-    }
+    saying(a.number(), 0, next)
 }
 
 fn wait(d: Desk, time: u32) -> Said {

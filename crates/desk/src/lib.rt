@@ -9,6 +9,7 @@ use rule::Timer;
 ghost use mathlib.Core.Bool.{true};
 ghost use mathlib.Core.Path.{_≡_};
 ghost use Rattle.desk.specs.Laws.{Laws};
+ghost use Rattle.desk.specs.Numbers.{packetRefusal, packetNumber};
 
 pub struct Desk {
     pub clock: u32,
@@ -25,9 +26,36 @@ pub enum PacketRefusal {
     Update,
 }
 
+impl PacketRefusal {
+    // The paper's number.
+    pub fn number(self) -> u8
+        ensures { λ n. ⌜ n ≡ packetRefusal self ⌝ }
+    {
+        match self {
+            PacketRefusal::Tuner => 8,
+            PacketRefusal::Before => 9,
+            PacketRefusal::Past => 10,
+            PacketRefusal::Unread(r) => r.number(),
+            PacketRefusal::Update => 7,
+        }
+    }
+}
+
 pub enum PacketAnswer {
     Refused(PacketRefusal),
     Done,
+}
+
+impl PacketAnswer {
+    // '0 or the refusal.'
+    pub fn number(self) -> u8
+        ensures { λ n. ⌜ n ≡ packetNumber self ⌝ }
+    {
+        match self {
+            PacketAnswer::Refused(r) => r.number(),
+            PacketAnswer::Done => 0,
+        }
+    }
 }
 
 pub struct Heard {

@@ -58,7 +58,7 @@ fn nibbles(bytes: &[u8]) -> Sent
     }
 }
 
-// Each field is a run of the 52 bits; the CNI is four, and the PIL stands among them.
+// In the order in which they are sent: LCI 2 bits, LUF, PRF, PCS 2, MI, spare, CNI 1-4, CNI 9-10, PIL 20, CNI 5-8, CNI 11-16, PTY 8.
 fn label_of(designation: u8, number: u64) -> Label
     requires { ⌜ designation < 16 ⌝ }
     ensures { λ r. ⌜ ((v : ℕ → ℕ) → designation ≡ v 2 → number ≡ numberBy (bitAt v) labelBytes → r ≡ labelBy (fieldBy v)) ⌝ }

@@ -3,15 +3,12 @@ ghost use Prim.Native.Nat.{_+_, _-_, _*_, _≤_};
 ghost use mathlib.Core.Path.{_≡_};
 ghost use lib.ListN.{length, take};
 ghost use lib.Seq.{sets};
-ghost use Rattle.desk.specs.Numbers.{packetRefusal, packetNumber};
 ghost use Rattle.sheet.specs.Sheet.{timerTold, timerLeft, packetTold, packetLeft};
 ghost use Rattle.sheet.specs.Pieces.{need, timersLeft, packetsLeft, deskAfter, stageAfter, told, longest};
 use crate::Stage;
 use crate::lines::packet_line;
 use crate::lines::timer_line;
 use desk::Desk;
-use desk::PacketAnswer;
-use desk::PacketRefusal;
 
 // 'Numbers have the high byte first.'
 fn pair(a: u8, b: u8) -> u16
@@ -30,28 +27,6 @@ fn four(a: u8, b: u8, c: u8, d: u8) -> u32
     ensures { λ r. ⌜ r ≡ ((a * 256 + b) * 256 + c) * 256 + d ⌝ }
 {
     triple(a, b, c) * 256 + d as u32
-}
-
-fn packet_refusal(r: PacketRefusal) -> u32
-    ensures { λ n. ⌜ n ≡ packetRefusal r ⌝ }
-{
-    match r {
-        PacketRefusal::Tuner => 8,
-        PacketRefusal::Before => 9,
-        PacketRefusal::Past => 10,
-        PacketRefusal::Unread(u) => u.number() as u32,
-        PacketRefusal::Update => 7,
-    }
-}
-
-// '0 or the refusal.'
-fn packet_number(a: PacketAnswer) -> u32
-    ensures { λ n. ⌜ n ≡ packetNumber a ⌝ }
-{
-    match a {
-        PacketAnswer::Refused(r) => packet_refusal(r),
-        PacketAnswer::Done => 0,
-    }
 }
 
 // The desk that a timer or a packet leaves, and the place after what it printed.
@@ -88,7 +63,7 @@ fn packet(desk: Desk, held: [u8; 47], out: &mut [u8], at: usize) -> Left
     let heard = desk.packet(held[4], time, &held[5..47]);
     let answer = heard.answer;
     let left = heard.desk;
-    let number = packet_number(answer);
+    let number = answer.number();
     let live = left.live();
     let next = packet_line(out, at, number, live);
     Left {

@@ -76,7 +76,7 @@ pub(crate) fn timer_line(out: &mut [u8], at: usize, a: AddAnswer) -> usize
 }
 
 // '`P answer live` per packet.'
-pub(crate) fn packet_line(out: &mut [u8], at: usize, answer: u32, live: u32) -> usize
+pub(crate) fn packet_line(out: &mut [u8], at: usize, answer: u8, live: u32) -> usize
     requires { ⌜ at + longest ≤ length (now out) ⌝ }
     ensures { λ r. ⌜ Stored (now (out .entry)) at (packetLine answer live) r (now (out .exit)) ⌝ }
 {

@@ -38,8 +38,8 @@ part-packet-end c = search needs
 packet-requires : tie.Need-packet-requires
 packet-requires c κs = search needs
 
-packet-number-requires : tie.Need-packet-number-requires
-packet-number-requires c κs = search needs
+number-requires : tie.Need-number-requires
+number-requires c κs = search needs
 
 live-requires : tie.Need-live-requires
 live-requires c κs = search needs
@@ -71,7 +71,7 @@ returns c =
       ← asked heard,
       ← heard .packet .ensures .1,
       ← heard .packet .ensures .0,
-      ← number .packet-number .ensures,
+      ← number .number .ensures,
       ← live .live .ensures,
       line .packet-line .ensures .0,
     )
@@ -91,7 +91,7 @@ packet-spec =
     part-packet-start
     part-packet-end
     packet-requires
-    packet-number-requires
+    number-requires
     live-requires
     packet-line-requires
     same-length
