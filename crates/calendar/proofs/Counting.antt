@@ -10,7 +10,7 @@ use borrow.Author.Tests.{ne-eqb, eqb-true, eqb-false, leb-true}
 use lib.Dec.{T, eqb, leb, ltb, eqb→eq, leb→le}
 use lib.ListN.{getD, List·getD-eq-default}
 use Rattle.hamming.proofs.All.{both, both-left, both-right, below, each}
-use Rattle.calendar.proofs.Cases.{by-test, and-true}
+use Rattle.hamming.proofs.Cases.{by-test, both-true}
 use Rattle.calendar.specs.Calendar.{leap, monthLengths, daysIn, dayExists, sumBelow, daysBeforeMonth, daysOfYear, daysBeforeYear, dayNumber}
 
 abbrev pub leapDay : Bool → ℕ
@@ -166,7 +166,7 @@ before-next year month day p q =
 pub dayNumber-lt : (year month day : ℕ) → dayExists year month day ≡ true → dayNumber year month day < daysBeforeYear (suc year)
 unfolding dayExists
 dayNumber-lt year month day e =
-    let p = and-true (leb 1 day) (leb day (daysIn year month)) e in
+    let p = both-true (leb 1 day) (leb day (daysIn year month)) e in
     before-next year month day (leb-true 1 day (p .0)) (leb-true day (daysIn year month) (p .1))
 
 -- the same date of a later year is more than a day away

@@ -1,4 +1,3 @@
-pub mod Cases
 pub mod Counting
 pub mod Windows
 pub mod Proved

@@ -11,7 +11,7 @@ use Rattle.label.specs.Pil.{twentyBits, dayOf, monthOf, hourOf, minuteOf}
 use Rattle.calendar.specs.Calendar.{dayExists, realIn, dateOf, hours, clockAt, clockEnd, opening, closing, opensAt, closesAt, windowAt, windowIn}
 use Rattle.calendar.specs.Laws.{InWindow, announcedAt}
 use Rattle.calendar.specs.declared.Window.{Window}
-use Rattle.calendar.proofs.Cases.{by-test, and-true, or-false}
+use Rattle.hamming.proofs.Cases.{by-test, both-true, both-false}
 use Rattle.calendar.proofs.Counting.{closed-form, dayNumber-lt, dayNumber-years}
 
 -- the window of a date and an hour
@@ -50,8 +50,8 @@ opens-lt-closes pil year = omega (arith, opening-le (dateOf pil year) (hourOf pi
 pub realIn-parts : (pil year : ℕ) → realIn pil year ≡ true → (dayExists year (monthOf pil) (dayOf pil) ≡ true) × (hourOf pil ≤ 23) × (minuteOf pil ≤ 59)
 unfolding realIn
 realIn-parts pil year e =
-    let p = and-true _ (leb (minuteOf pil) 59) e in
-    let q = and-true _ (leb (hourOf pil) 23) (p .0) in
+    let p = both-true _ (leb (minuteOf pil) 59) e in
+    let q = both-true _ (leb (hourOf pil) 23) (p .0) in
     (q .0, leb-true (hourOf pil) 23 (q .1), leb-true (minuteOf pil) 59 (p .1))
 
 pub closes-le-end : (pil year : ℕ) → year ≤ 99 → realIn pil year ≡ true → closesAt pil year ≤ clockEnd
@@ -105,8 +105,8 @@ overlap pil year next nextYear e =
 -- what is not refused is real
 pub accepted : (pil year : ℕ) → (ltb 99 year || not (twentyBits pil) || not (realIn pil year)) ≡ false → (year ≤ 99) × (pil < 2 ^ 20) × (realIn pil year ≡ true)
 accepted pil year e =
-    let p = or-false _ (not (realIn pil year)) e in
-    let q = or-false (ltb 99 year) (not (twentyBits pil)) (p .0) in
+    let p = both-false _ (not (realIn pil year)) e in
+    let q = both-false (ltb 99 year) (not (twentyBits pil)) (p .0) in
     (ltb-false 99 year (q .0), ltb-true pil (2 ^ 20) (not-false _ (q .1)), not-false _ (p .1))
 
 -- what is real is given its window, and nothing else is given one

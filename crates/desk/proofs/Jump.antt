@@ -8,7 +8,7 @@ use native.Mathlib.Omega.{arith}
 use borrow.Author.Tests.{leb-false, lt-leb, not-true}
 use lib.Dec.{leb}
 use lib.ListN.{getD, List·getD-map}
-use Rattle.calendar.proofs.Cases.{and-true, or-false}
+use Rattle.hamming.proofs.Cases.{both-true, both-false}
 use Rattle.rule.specs.Rule.{noLabel, standFor, stands, endedAt, matches, nowhere, lowestFrom, some, sightOf, held, nextCopy, nextTimer, isLive, liveTimer}
 use Rattle.rule.specs.declared.Stamped.{Stamped}
 use Rattle.rule.specs.declared.Booking.{Booking}
@@ -29,8 +29,8 @@ module _ {A : Type 0} (f : A → Bool) (z : A) where
 
   pub some-none : f z ≡ false → (xs : List A) → some f xs ≡ false → None xs
   some-none h [] e i = h
-  some-none h (x ∷ xs) e zero = or-false (f x) (some f xs) e .0
-  some-none h (x ∷ xs) e (suc i) = some-none h xs (or-false (f x) (some f xs) e .1) i
+  some-none h (x ∷ xs) e zero = both-false (f x) (some f xs) e .0
+  some-none h (x ∷ xs) e (suc i) = some-none h xs (both-false (f x) (some f xs) e .1) i
 
   pub none-some : (xs : List A) → None xs → some f xs ≡ false
   none-some [] n = refl
@@ -119,7 +119,7 @@ pub record Quiet (d : Desk) : Type 0 where
 pub quiet-is : (d : Desk) → quiet d ≡ true → Quiet d
 unfolding quiet stands
 quiet-is d q =
-    let k = and-true (not (some (stands (d .clock)) (d .places))) (not (some liveTimer (d .timers))) q in
+    let k = both-true (not (some (stands (d .clock)) (d .places))) (not (some liveTimer (d .timers))) q in
     record {
       none-stands = some-none (stands (d .clock)) noLabel refl (d .places) (not-true _ (k .0));
       none-lives = some-none liveTimer noTimer refl (d .timers) (not-true _ (k .1));

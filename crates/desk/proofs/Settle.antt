@@ -7,7 +7,7 @@ use native.Mathlib.Omega.{arith}
 use borrow.Author.Tests.{lt-ltb, not-true}
 use lib.Dec.{ltb}
 use lib.ListN.{getD}
-use Rattle.calendar.proofs.Cases.{and-true}
+use Rattle.hamming.proofs.Cases.{both-true}
 use Rattle.rule.specs.Rule.{noLabel, endedAt, matches, Found, nowhere, at, lowestFrom, lowest, some, sightBy, sightOf, recordingAt, notLive, movesOr, fromRecording, runFor, fromRunningOn, goesOn, held, nextCopy, nextTimer}
 use Rattle.rule.specs.declared.Stamped.{Stamped}
 use Rattle.rule.specs.declared.Booking.{Booking}
@@ -56,7 +56,7 @@ module _ (s : ℕ) (ls : List Stamped) (b : Booking) where
       go : (f : Found) (p : Bool) → lowest starts ls ≡ f → sightBy f p ≡ Start q → Starts q
       go (at r) p d h =
           let z : r ≡ q = cc in
-          let k = and-true (matches s b (getD ls r noLabel)) (not (getD ls r noLabel .prf)) (lowest-passes starts noLabel ls r d) in
+          let k = both-true (matches s b (getD ls r noLabel)) (not (getD ls r noLabel .prf)) (lowest-passes starts noLabel ls r d) in
           rw (← z) (k .0, not-true (getD ls r noLabel .prf) (k .1))
       go nowhere true d h = (cc, cc)
       go nowhere false d h = (cc, cc)

@@ -13,7 +13,7 @@ use Rattle.label.specs.declared.Label.{Label}
 use Rattle.label.specs.Pil.{serviceOf}
 use Rattle.calendar.specs.declared.Window.{Window}
 use Rattle.calendar.specs.Calendar.{windowIn, clockEnd}
-use Rattle.calendar.proofs.Cases.{and-true}
+use Rattle.hamming.proofs.Cases.{both-true}
 use Rattle.rule.specs.Rule.{noLabel, stands, stamped, renewed, isContinuation, heardAt, openAt, endedAt, held, nextCopy, nextTimer, isLive, some}
 use Rattle.rule.specs.declared.Stamped.{Stamped}
 use Rattle.rule.specs.declared.Booking.{Booking}
@@ -78,7 +78,7 @@ sound-moment d h = record {
 -- what is held and not ended at a later second is so before
 active-before : (s s′ : ℕ) → s ≤ s′ → (t : Timer) → active s′ t ≡ true → active s t ≡ true
 active-before s s′ k t a =
-    let h = and-true (held (t .copy)) (not (endedAt s′ (t .booking))) a in
+    let h = both-true (held (t .copy)) (not (endedAt s′ (t .booking))) a in
     rw (h .0, not-ended-before (t .booking) s s′ k (not-true (endedAt s′ (t .booking)) (h .1)))
 
 pre-at : (s : ℕ) (d : Desk) → Sound d → d .clock ≤ s → s ≤ clockEnd → Pre (clockedAt s d)

@@ -6,7 +6,7 @@ use borrow.Author.Tests.{eqb-true, eq-eqb}
 use lib.Dec.{eqb}
 use Rattle.calendar.specs.Laws.{InWindow}
 use Rattle.calendar.proofs.Proved as calendar
-use Rattle.calendar.proofs.Cases.{and-true}
+use Rattle.hamming.proofs.Cases.{both-true}
 use Rattle.rule.specs.Rule.{held, isLive, liveTimer}
 use Rattle.rule.specs.declared.Copy.{Copy}
 use Rattle.rule.specs.declared.Copy.the-variants.{Free, Waiting, Prepared, Recording, RunningOn}
@@ -52,6 +52,6 @@ one-copy d h cni pil = count-one (copyOf cni pil) noTimer (d .timers) λ i j l a
         (liveTimer (timerAt d slot) ≡ true) × (timerAt d slot .booking .cni ≡ cni) × (timerAt d slot .booking .pil ≡ pil)
     is-copy slot e =
         let t = timerAt d slot in
-        let k = and-true (liveTimer t && eqb (t .booking .cni) cni) (eqb (t .booking .pil) pil) e in
-        let m = and-true (liveTimer t) (eqb (t .booking .cni) cni) (k .0) in
+        let k = both-true (liveTimer t && eqb (t .booking .cni) cni) (eqb (t .booking .pil) pil) e in
+        let m = both-true (liveTimer t) (eqb (t .booking .cni) cni) (k .0) in
         (m .0, eqb-true _ _ (m .1), eqb-true _ _ (k .1))

@@ -8,7 +8,7 @@ use native.Mathlib.Omega.{arith}
 use borrow.Author.Tests.{leb-true, le-leb, eq-eqb, not-true}
 use lib.Dec.{leb, eqb}
 use lib.ListN.{getD}
-use Rattle.calendar.proofs.Cases.{and-true}
+use Rattle.hamming.proofs.Cases.{both-true}
 use Rattle.rule.specs.Rule.{noLabel, standFor, stands, openAt, matches, at, recordingAt, fromRecording, nextCopy, nextTimer}
 use Rattle.rule.specs.declared.Stamped.{Stamped}
 use Rattle.rule.specs.declared.Booking.{Booking}
@@ -52,16 +52,16 @@ module _ (s q : ℕ) (ls : List Stamped) (b : Booking) (c : Copy) (mi : Bool) wh
 stands-before : (s s′ : ℕ) (l : Stamped) → s ≤ s′ → stands s′ l ≡ true → stands s l ≡ true
 unfolding stands
 stands-before s s′ l h e =
-    let k = and-true (l .heard) (leb (s′ - l .stamp) standFor) e in
+    let k = both-true (l .heard) (leb (s′ - l .stamp) standFor) e in
     rw (k .0) (le-leb (s - l .stamp) standFor (omega (arith, leb-true (s′ - l .stamp) standFor (k .1))))
 
 -- from a second at which the window is open to one at which the label matches
 matches-between : (b : Booking) (l : Stamped) (o s s′ : ℕ) → o ≤ s → s ≤ s′ → openAt o b ≡ true → matches s′ b l ≡ true → matches s b l ≡ true
 unfolding matches
 matches-between b l o s s′ h k e m =
-    let x = and-true (stands s′ l && eqb (l .cni) (b .cni) && eqb (l .pil) (b .pil)) (openAt s′ b) m in
-    let y = and-true (stands s′ l && eqb (l .cni) (b .cni)) (eqb (l .pil) (b .pil)) (x .0) in
-    let z = and-true (stands s′ l) (eqb (l .cni) (b .cni)) (y .0) in
+    let x = both-true (stands s′ l && eqb (l .cni) (b .cni) && eqb (l .pil) (b .pil)) (openAt s′ b) m in
+    let y = both-true (stands s′ l && eqb (l .cni) (b .cni)) (eqb (l .pil) (b .pil)) (x .0) in
+    let z = both-true (stands s′ l) (eqb (l .cni) (b .cni)) (y .0) in
     rw (stands-before s s′ l k (z .0), z .1, y .1)
     (open-later b o s h e (not-ended-before b s s′ k (open-not-ended b s′ (x .1))))
 

@@ -9,7 +9,7 @@ use Rattle.hamming.specs.Answer.{Answer, refused, given}
 use Rattle.calendar.specs.declared.Window.{Window}
 use Rattle.calendar.specs.Calendar.{windowIn}
 use Rattle.calendar.specs.Laws.{InWindow}
-use Rattle.calendar.proofs.Cases.{and-true}
+use Rattle.hamming.proofs.Cases.{both-true}
 use Rattle.calendar.proofs.Windows.{windowIn-given}
 use Rattle.rule.specs.Rule.{stands, openIn, openAt, closedIn, endedAt, matches}
 use Rattle.rule.specs.declared.Stamped.{Stamped}
@@ -18,12 +18,12 @@ use Rattle.rule.specs.declared.Booking.{Booking}
 -- a window that is open has not ended, and is open until it has
 openIn-closedIn : (s : ℕ) (w : Answer Window) → openIn s w ≡ true → closedIn s w ≡ false
 openIn-closedIn s (refused n) e = absurd (true≢false (sym e))
-openIn-closedIn s (given w) e = lt-leb (w .closes) s (ltb-true s (w .closes) (and-true (leb (w .opens) s) (ltb s (w .closes)) e .1))
+openIn-closedIn s (given w) e = lt-leb (w .closes) s (ltb-true s (w .closes) (both-true (leb (w .opens) s) (ltb s (w .closes)) e .1))
 
 openIn-later : (s s′ : ℕ) (w : Answer Window) → s ≤ s′ → openIn s w ≡ true → closedIn s′ w ≡ false → openIn s′ w ≡ true
 openIn-later s s′ (refused n) h e f = absurd (true≢false (sym e))
 openIn-later s s′ (given w) h e f =
-    let o : w .opens ≤ s = leb-true (w .opens) s (and-true (leb (w .opens) s) (ltb s (w .closes)) e .0) in
+    let o : w .opens ≤ s = leb-true (w .opens) s (both-true (leb (w .opens) s) (ltb s (w .closes)) e .0) in
     let c : s′ < w .closes = leb-false (w .closes) s′ f in
     rw (le-leb (w .opens) s′ (omega arith), lt-ltb s′ (w .closes) c)
 
@@ -46,7 +46,7 @@ module _ (b : Booking) where
 
   pub matches-open : (s : ℕ) (l : Stamped) → matches s b l ≡ true → openAt s b ≡ true
   unfolding matches
-  matches-open s l e = and-true (stands s l && eqb (l .cni) (b .cni) && eqb (l .pil) (b .pil)) (openAt s b) e .1
+  matches-open s l e = both-true (stands s l && eqb (l .cni) (b .cni) && eqb (l .pil) (b .pil)) (openAt s b) e .1
 
   -- the seconds at which it is open are those of the calendar's window
   pub open-in-window : (s : ℕ) → openAt s b ≡ true → InWindow (b .pil) (b .year) s
@@ -56,6 +56,6 @@ module _ (b : Booking) where
       go : (a : Answer Window) → windowIn (b .pil) (b .year) ≡ a → openIn s a ≡ true → InWindow (b .pil) (b .year) s
       go (refused n) w e = absurd (true≢false (sym e))
       go (given x) w e =
-          let k = and-true (leb (x .opens) s) (ltb s (x .closes)) e in
+          let k = both-true (leb (x .opens) s) (ltb s (x .closes)) e in
           let z = windowIn-given (b .pil) (b .year) x w .3 in
           (rw (ap (λ y. y .opens) z) at (leb-true (x .opens) s (k .0)), rw (ap (λ y. y .closes) z) at (ltb-true s (x .closes) (k .1)))

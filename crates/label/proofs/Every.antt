@@ -6,28 +6,13 @@ use mathlib.Core.List.{List, [], _∷_, _++_, map}
 use native.Mathlib.Omega.{arith}
 use borrow.Author.Tests.{eqb-true, eq-eqb, ltb-true, le-ltb}
 use lib.Dec.{eqb, ltb}
+use Rattle.hamming.proofs.Cases.{both-true, both-false}
 use Rattle.hamming.specs.Answer.{refused, given, Row, firstOf}
 use Rattle.label.specs.Packet.{anyFrom}
 use Rattle.label.specs.Laws.{member, sooner}
 
 pub no-way : {X : Type 0} → true ≡ false → X
 no-way e = absurd (let z : _≡_ {A = ℕ} 0 1 = cc in omega arith)
-
-pub or-left : (a b : Bool) → (a || b) ≡ false → a ≡ false
-or-left true b e = e
-or-left false b e = refl
-
-pub or-right : (a b : Bool) → (a || b) ≡ false → b ≡ false
-or-right true b e = no-way e
-or-right false b e = e
-
-pub and-left : (a b : Bool) → (a && b) ≡ true → a ≡ true
-and-left true b e = refl
-and-left false b e = e
-
-pub and-right : (a b : Bool) → (a && b) ≡ true → b ≡ true
-and-right true b e = e
-and-right false b e = no-way (sym e)
 
 -- ── every element ──────────────────────────────────────────────────────────────────────────────────────────────────
 abbrev pub All : {A : Type 0} → (A → Type 0) → List A → Type 0
@@ -53,7 +38,7 @@ every f (x ∷ xs) = f x && every f xs
 
 pub tested : {A : Type 0} {P : A → Type 0} (f : A → Bool) → ((x : A) → f x ≡ true → P x) → (xs : List A) → every f xs ≡ true → All P xs
 tested f h [] e = tt
-tested f h (x ∷ xs) e = (h x (and-left (f x) (every f xs) e), tested f h xs (and-right (f x) (every f xs) e))
+tested f h (x ∷ xs) e = (h x ((both-true (f x) (every f xs) e) .0), tested f h xs ((both-true (f x) (every f xs) e) .1))
 
 pub map-same : {A B : Type 0} (f g : A → B) (xs : List A) → All (λ x. f x ≡ g x) xs → map f xs ≡ map g xs
 map-same f g [] a = refl
@@ -87,11 +72,11 @@ any-same f g (x ∷ xs) t a = rw (a .0) (any-same f g xs (t || g x) (a .1))
 
 any-start : {A : Type 0} (f : A → Bool) (xs : List A) (t : Bool) → anyFrom t f xs ≡ false → t ≡ false
 any-start f [] t e = e
-any-start f (x ∷ xs) t e = or-left t (f x) (any-start f xs (t || f x) e)
+any-start f (x ∷ xs) t e = (both-false t (f x) (any-start f xs (t || f x) e)) .0
 
 pub any-none : {A : Type 0} (f : A → Bool) (xs : List A) (t : Bool) → anyFrom t f xs ≡ false → All (λ x. f x ≡ false) xs
 any-none f [] t e = tt
-any-none f (x ∷ xs) t e = (or-right t (f x) (any-start f xs (t || f x) e), any-none f xs (t || f x) e)
+any-none f (x ∷ xs) t e = ((both-false t (f x) (any-start f xs (t || f x) e)) .1, any-none f xs (t || f x) e)
 
 pub none-any : {A : Type 0} (f : A → Bool) (xs : List A) → All (λ x. f x ≡ false) xs → anyFrom false f xs ≡ false
 none-any f [] a = refl
@@ -133,19 +118,19 @@ accepted a b (row ∷ rows) e = go (row .0) refl e (accepted a b rows)
 module _ {A : Type 0} (a b : A) (n : ℕ) where
   later : (rows : List Row) → every (λ row. ltb n (row .1)) rows ≡ true → sooner (firstOf rows a) n ≡ n
   later [] e = refl
-  later (row ∷ rows) e = go (row .0) (later rows (and-right (ltb n (row .1)) _ e))
+  later (row ∷ rows) e = go (row .0) (later rows ((both-true (ltb n (row .1)) _ e) .1))
     where
       go : (t : Bool) → sooner (firstOf rows a) n ≡ n → sooner (cond t (refused (row .1)) (firstOf rows a)) n ≡ n
-      go true k = let l = ltb-true n (row .1) (and-left (ltb n (row .1)) _ e) in rw (le-ltb (row .1) n (omega arith))
+      go true k = let l = ltb-true n (row .1) ((both-true (ltb n (row .1)) _ e) .0) in rw (le-ltb (row .1) n (omega arith))
       go false k = k
 
   pub one-more : (before rest after : List Row) → every (λ row. ltb (row .1) n) before ≡ true → every (λ row. ltb n (row .1)) after ≡ true →
       firstOf (before ++ ((true, n) ∷ rest)) b ≡ refused (sooner (firstOf (before ++ ((false, n) ∷ after)) a) n)
   one-more [] rest after e h = ap refused (sym (later after h))
-  one-more (row ∷ before) rest after e h = go (row .0) (one-more before rest after (and-right (ltb (row .1) n) _ e) h)
+  one-more (row ∷ before) rest after e h = go (row .0) (one-more before rest after ((both-true (ltb (row .1) n) _ e) .1) h)
     where
       go : (t : Bool) → firstOf (before ++ ((true, n) ∷ rest)) b ≡ refused (sooner (firstOf (before ++ ((false, n) ∷ after)) a) n) →
           cond t (refused (row .1)) (firstOf (before ++ ((true, n) ∷ rest)) b)
           ≡ refused (sooner (cond t (refused (row .1)) (firstOf (before ++ ((false, n) ∷ after)) a)) n)
-      go true k = rw (and-left (ltb (row .1) n) _ e)
+      go true k = rw ((both-true (ltb (row .1) n) _ e) .0)
       go false k = k

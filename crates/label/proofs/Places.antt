@@ -9,13 +9,14 @@ use borrow.Author.Tests.{eqb-true, ne-eqb, ltb-true}
 use lib.Dec.{eqb, ltb}
 use lib.ListN.{length}
 use Rattle.hamming.specs.Byte.{D}
+use Rattle.hamming.proofs.Cases.{both-true}
 use Rattle.label.specs.declared.Label.{Label}
 use Rattle.label.specs.Layout.{Field, designation, lci, luf, prf, pcs, mi, spare, cni, pil, pty, fields, Position, positions, fieldOf, labelBy, numberFrom, bitAt, fieldBy, bits, fieldBits, zip, bitsOf, lookup, sentAt, four, sentIn}
 use Rattle.label.specs.Packet.{valueFor, labelBytes}
 use Rattle.label.specs.Laws.{member}
 use Rattle.label.proofs.Digits.{number-of-bits, number-small, bits-of-number}
 use Rattle.label.proofs.Nibbles.{low-four, four-number, four-bits, four-small}
-use Rattle.label.proofs.Every.{no-way, and-left, and-right, All, all-append, every, tested, map-same, map-all, listed, each-listed}
+use Rattle.label.proofs.Every.{no-way, All, all-append, every, tested, map-same, map-all, listed, each-listed}
 
 -- ── a value and its data bits ──────────────────────────────────────────────────────────────────────────────────────
 bit-small : (k v : ℕ) → D k v < 2
@@ -60,7 +61,7 @@ within s = member (s .0) sentBytes && member (s .1) dataBits
 -- what holds of each position within them holds of a field's
 at-field : (P : Position → Type 0) → ((i k : ℕ) → member i sentBytes ≡ true → member k dataBits ≡ true → P (i, k)) → (f : Field) → All P (positions f)
 at-field P h f =
-    tested within (λ s e. h (s .0) (s .1) (and-left (member (s .0) sentBytes) _ e) (and-right (member (s .0) sentBytes) _ e)) (positions f)
+    tested within (λ s e. h (s .0) (s .1) ((both-true (member (s .0) sentBytes) _ e) .0) ((both-true (member (s .0) sentBytes) _ e) .1)) (positions f)
     (fielded (λ f. every within (positions f) ≡ true) (tested (λ f. every within (positions f)) (λ f e. e) fields refl) f)
 
 -- a field goes by the values of these bytes

@@ -8,9 +8,10 @@ use borrow.Author.Tests.{eqb-true, eqb-false}
 use lib.Dec.{eqb}
 use lib.ListN.{length, getD, set, length-set}
 use lib.Seq.{getD-set-same, getD-set-other, lt-length-set}
+use Rattle.hamming.proofs.Cases.{both-false}
 use Rattle.label.specs.Packet.{put, any, anyFrom}
 use Rattle.label.specs.Laws.{member}
-use Rattle.label.proofs.Every.{All, no-way, or-left, or-right}
+use Rattle.label.proofs.Every.{All, no-way}
 
 -- ── what stands there ──────────────────────────────────────────────────────────────────────────────────────────────
 pub put-length : (f : ℕ → ℕ) (is p : List ℕ) → length (put f is p) ≡ length p
@@ -21,8 +22,8 @@ put-length f (j ∷ is) p = put-length f is (set p j (f j)) ∙ length-set p j (
 pub put-other : (f : ℕ → ℕ) (is p : List ℕ) (i : ℕ) → member i is ≡ false → getD (put f is p) i 0 ≡ getD p i 0
 put-other f [] p i m = refl
 put-other f (j ∷ is) p i m =
-    put-other f is (set p j (f j)) i (or-right (eqb i j) (member i is) m)
-    ∙ getD-set-other p j i (f j) 0 (eqb-false i j (or-left (eqb i j) (member i is) m))
+    put-other f is (set p j (f j)) i ((both-false (eqb i j) (member i is) m) .1)
+    ∙ getD-set-other p j i (f j) 0 (eqb-false i j ((both-false (eqb i j) (member i is) m) .0))
 
 -- and one that is listed is the new one
 pub put-in : (f : ℕ → ℕ) (is p : List ℕ) (i : ℕ) → member i is ≡ true → i < length p → getD (put f is p) i 0 ≡ f i

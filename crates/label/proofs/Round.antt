@@ -11,11 +11,12 @@ use Rattle.hamming.specs.Byte.{good, nibbleOf}
 use Rattle.hamming.specs.declared.Nibble.{Nibble}
 use Rattle.hamming.specs.declared.Nibble.the-variants.{Damaged, Value}
 use Rattle.hamming.proofs.Bytes as bytes
+use Rattle.hamming.proofs.Cases.{both-true, both-false}
 use Rattle.label.specs.declared.Label.{Label}
 use Rattle.label.specs.Layout.{Field, designation, fields, positions, fieldOf, labelBy, fieldBy}
 use Rattle.label.specs.Packet.{readerRows, readingOf, labelIn, writerRows, writingOf, put, byteFor, valueFor, nibbleAt, valueAt, valueOf, damagedAt, damaged, format2, unfit, tooWide, any, hammingBytes, labelBytes}
 use Rattle.label.specs.Laws.{member}
-use Rattle.label.proofs.Every.{no-way, or-left, or-right, and-left, and-right, All, all-of, all-map, listed, each-listed, unlisted, any-none, none-any, Passed, passed, accepted}
+use Rattle.label.proofs.Every.{no-way, All, all-of, all-map, listed, each-listed, unlisted, any-none, none-any, Passed, passed, accepted}
 use Rattle.label.proofs.Puts.{put-length, put-in, put-other, put-same}
 use Rattle.label.proofs.Places.{fielded, sentBytes, field-same, designation-of, value-small, field-back, field-fits, sent-again}
 
@@ -24,12 +25,12 @@ module _ (l : Label) (u : unfit l ≡ false) where
   fits : (f : Field) → fieldOf f l < 2 ^ length (positions f)
   fits f =
       leb-false (2 ^ length (positions f)) (fieldOf f l)
-      (fielded (λ f. tooWide l f ≡ false) (any-none (tooWide l) fields false (or-left (any (tooWide l) fields) (not (format2 (l .designation))) u)) f)
+      (fielded (λ f. tooWide l f ≡ false) (any-none (tooWide l) fields false ((both-false (any (tooWide l) fields) (not (format2 (l .designation))) u) .0)) f)
 
   format : format2 (valueFor l 2) ≡ true
   format =
       ap format2 (sym (designation-of (valueFor l) (value-small l 2)) ∙ field-back l designation (fits designation))
-      ∙ not-false (format2 (l .designation)) (or-right (any (tooWide l) fields) (not (format2 (l .designation))) u)
+      ∙ not-false (format2 (l .designation)) ((both-false (any (tooWide l) fields) (not (format2 (l .designation))) u) .1)
 
   -- a packet with the values of the label reads as the label
   reads : (q : List ℕ) → length q ≡ 42 → All (λ i. nibbleAt q i ≡ Value (valueFor l i)) hammingBytes → readingOf q ≡ given l
@@ -86,9 +87,9 @@ module _ (p : List ℕ) (t : Passed (readerRows p)) where
 
   again : All (λ i. valueFor (labelIn p) i ≡ valueAt p i) hammingBytes
   again = (
-    sym (eqb-true (valueAt p 0) 0 (and-left (eqb (valueAt p 0) 0) (eqb (valueAt p 1) 15) address)),
+    sym (eqb-true (valueAt p 0) 0 ((both-true (eqb (valueAt p 0) 0) (eqb (valueAt p 1) 15) address) .0)),
     (
-      sym (eqb-true (valueAt p 1) 15 (and-right (eqb (valueAt p 0) 0) (eqb (valueAt p 1) 15) address)),
+      sym (eqb-true (valueAt p 1) 15 ((both-true (eqb (valueAt p 0) 0) (eqb (valueAt p 1) 15) address) .1)),
       unlisted sentBytes (λ i m. sent-again (valueAt p) i m (listed (λ i. valueAt p i < 16) sentBytes small i m)),
     ),
   )

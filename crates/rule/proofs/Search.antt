@@ -7,7 +7,7 @@ use lib.ListN.{length, getD, drop, drop-of-length-le}
 use lib.Seq.{drop-cons}
 use native.Mathlib.Nat.{add-zero, add-suc, suc-add}
 use native.Mathlib.Numerals.{add-one}
-use Rattle.calendar.proofs.Cases.{by-test}
+use Rattle.hamming.proofs.Cases.{by-test}
 use Rattle.rule.specs.Rule.{nowhere, at, lowestFrom, some}
 use Rattle.rule.specs.Look.{before}
 

@@ -6,7 +6,7 @@ use mathlib.Core.List.{List, [], _∷_}
 use lib.Dec.{eqb}
 use lib.ListN.{length, getD, drop}
 use native.Mathlib.Nat.{zero-add}
-use Rattle.calendar.proofs.Cases.{by-test}
+use Rattle.hamming.proofs.Cases.{by-test}
 use Rattle.rule.specs.Rule.{noLabel, stands, nowhere, lowestFrom, some, sightBy, openAt, matches, sightOf}
 use Rattle.rule.specs.Look.{named, firstWith, lookOf}
 use Rattle.rule.specs.declared.Stamped.{Stamped}

@@ -7,7 +7,7 @@ use borrow.Author.Tests.{leb-true, le-ltb}
 use Rattle.hamming.specs.Answer.{Answer, refused, given}
 use Rattle.calendar.specs.declared.Window.{Window}
 use Rattle.calendar.specs.Calendar.{windowIn}
-use Rattle.calendar.proofs.Cases.{by-test}
+use Rattle.hamming.proofs.Cases.{by-test}
 use Rattle.rule.specs.Rule.{openIn, closedIn, openAt, endedAt, sightOf, notLive, movesOr, held, nextCopy, nextTimer}
 use Rattle.rule.specs.declared.Stamped.{Stamped}
 use Rattle.rule.specs.declared.Booking.{Booking}
