@@ -29,14 +29,29 @@ fn value(b: u8) -> u8
     }
 }
 
-// Each value with its bits in the other order: 'Here D1 is the highest bit of the nibble.'
-const TURNED: [u8; 16] = [0, 8, 4, 12, 2, 10, 6, 14, 1, 9, 5, 13, 3, 11, 7, 15];
-
-// The four bits of a nibble as a number, the first sent highest.
+// The four bits of a nibble as a number, the first sent highest: 'Here D1 is the highest bit of the nibble.' A `match` lies still in
+// memory, where a constant array is built anew at each look.
 pub(crate) fn turned(v: u8) -> u8
     ensures { λ r. ⌜ (r ≡ numberFrom 0 (D 1 v ∷ D 2 v ∷ D 3 v ∷ D 4 v ∷ [])) × (r < 16) ⌝ }
 {
-    TURNED[(v % 16) as usize]
+    match v % 16 {
+        0 => 0,
+        1 => 8,
+        2 => 4,
+        3 => 12,
+        4 => 2,
+        5 => 10,
+        6 => 6,
+        7 => 14,
+        8 => 1,
+        9 => 9,
+        10 => 5,
+        11 => 13,
+        12 => 3,
+        13 => 11,
+        14 => 7,
+        15..=255 => 15,
+    }
 }
 
 fn nibbles(bytes: &[u8]) -> Sent
