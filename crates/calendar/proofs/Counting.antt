@@ -9,8 +9,8 @@ use native.Mathlib.Omega.{arith}
 use borrow.Author.Tests.{ne-eqb, eqb-true, eqb-false, leb-true}
 use lib.Dec.{T, eqb, leb, ltb, eqb→eq, leb→le}
 use lib.ListN.{getD, List·getD-eq-default}
-use Rattle.hamming.proofs.All.{both, both-left, both-right, below, each}
-use Rattle.hamming.proofs.Cases.{by-test, both-true}
+use Rattle.answer.proofs.All.{both, both-left, both-right, below, each}
+use Rattle.answer.proofs.Cases.{by-test, both-true}
 use Rattle.calendar.specs.Calendar.{leap, monthLengths, daysIn, dayExists, sumBelow, daysBeforeMonth, daysOfYear, daysBeforeYear, dayNumber}
 
 abbrev pub leapDay : Bool → ℕ

@@ -1,7 +1,7 @@
 -- The laws of the calendar.
 use mathlib.Core.Path.{_≡_, refl}
-use Rattle.hamming.specs.Answer.{Answer, refused, given}
-use Rattle.hamming.proofs.Answers.{numbered}
+use Rattle.answer.specs.Answer.{Answer, refused, given}
+use Rattle.answer.proofs.Answers.{numbered}
 use Rattle.calendar.specs.Calendar.{validityAnswer, windowIn}
 use Rattle.calendar.specs.Laws.{Laws}
 use Rattle.calendar.specs.declared.Window.{Window}

@@ -6,12 +6,12 @@ use native.Mathlib.Decide.{decLt}
 use native.Mathlib.Omega.{arith}
 use borrow.Author.Tests.{leb-true, ltb-true, ltb-false, lt-ltb, le-ltb, not-false}
 use lib.Dec.{leb, ltb}
-use Rattle.hamming.specs.Answer.{refused, given}
+use Rattle.answer.specs.Answer.{refused, given}
 use Rattle.label.specs.Pil.{twentyBits, dayOf, monthOf, hourOf, minuteOf}
 use Rattle.calendar.specs.Calendar.{dayExists, realIn, dateOf, hours, clockAt, clockEnd, opening, closing, opensAt, closesAt, windowAt, windowIn}
 use Rattle.calendar.specs.Laws.{InWindow, announcedAt}
 use Rattle.calendar.specs.declared.Window.{Window}
-use Rattle.hamming.proofs.Cases.{by-test, both-true, both-false}
+use Rattle.answer.proofs.Cases.{by-test, both-true, both-false}
 use Rattle.calendar.proofs.Counting.{closed-form, dayNumber-lt, dayNumber-years}
 
 -- the window of a date and an hour

@@ -4,7 +4,7 @@ use mathlib.Core.Bool.{Bool, cond, not, _&&_, _||_}
 use mathlib.Core.List.{List, [], _∷_}
 use lib.Dec.{leb, ltb, eqb}
 use lib.ListN.{getD}
-use Rattle.hamming.specs.Answer.{Answer, refused, given, firstOf}
+use Rattle.answer.specs.Answer.{Answer, refused, given, firstOf}
 use Rattle.label.specs.Pil.{twentyBits, dayOf, monthOf, hourOf, minuteOf}
 use Rattle.calendar.specs.declared.Window.{Window}
 use Rattle.calendar.specs.declared.Validity.{Validity}

@@ -3,7 +3,7 @@ use Prim.Native.Nat.{ℕ, _+_, _*_, _/_, _≤_, _<_}
 use mathlib.Core.Bool.{true, cond}
 use mathlib.Core.Path.{_≡_}
 use lib.Dec.{leb}
-use Rattle.hamming.specs.Answer.{Unique}
+use Rattle.answer.specs.Answer.{Unique}
 use Rattle.label.specs.Pil.{dayOf, monthOf, hourOf, minuteOf}
 use Rattle.calendar.specs.Calendar.{daysIn, realIn, daysBeforeYear, dayNumber, dateOf, hours, clockAt, clockEnd, opensAt, closesAt, validityAnswer, windowIn}
 use Rattle.calendar.specs.declared.Validity.{Validity}

@@ -1,5 +1,7 @@
 // A row: byte 0 the call; 1 to 4 a time or a PIL; 5 and 6 a CNI; 7 a tuner, a year or a slot; 8 the length of the packet that follows.
 ghost use Prim.Native.Nat.{_≤_};
+use answer::four;
+use answer::pair;
 use desk::AddAnswer;
 use desk::CancelAnswer;
 use desk::Desk;
@@ -19,14 +21,6 @@ fn saying(number: u8, value: u32, desk: Desk) -> Said {
         value,
         desk,
     }
-}
-
-fn pair(a: u8, b: u8) -> u16 {
-    a as u16 * 256 + b as u16
-}
-
-fn four(a: u8, b: u8, c: u8, d: u8) -> u32 {
-    pair(a, b) as u32 * 65536 + pair(c, d) as u32
 }
 
 // The packet is as long as byte 8 says, and at most what is left of the row.

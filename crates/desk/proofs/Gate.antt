@@ -5,7 +5,7 @@ use mathlib.Core.Bool.{Bool, true, false}
 use mathlib.Core.List.{[], _∷_}
 use native.Mathlib.Omega.{arith}
 use lib.Dec.{ltb}
-use Rattle.hamming.specs.Answer.{refused, given, firstOf, number}
+use Rattle.answer.specs.Answer.{refused, given, firstOf, number}
 use Rattle.calendar.specs.Calendar.{clockEnd}
 use Rattle.label.specs.Packet.{refusalNumber}
 use Rattle.label.specs.declared.Label.{Label}

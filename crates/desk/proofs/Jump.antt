@@ -8,8 +8,9 @@ use native.Mathlib.Omega.{arith}
 use borrow.Author.Tests.{leb-false, lt-leb, not-true}
 use lib.Dec.{leb}
 use lib.ListN.{getD, List·getD-map}
-use Rattle.hamming.proofs.Cases.{both-true, both-false}
-use Rattle.rule.specs.Rule.{noLabel, standFor, stands, endedAt, matches, nowhere, lowestFrom, some, sightOf, held, nextCopy, nextTimer, isLive, liveTimer}
+use Rattle.answer.proofs.Cases.{both-true, both-false}
+use Rattle.answer.specs.Lists.{some}
+use Rattle.rule.specs.Rule.{noLabel, standFor, stands, endedAt, matches, nowhere, lowestFrom, sightOf, held, nextCopy, nextTimer, isLive, liveTimer}
 use Rattle.rule.specs.declared.Stamped.{Stamped}
 use Rattle.rule.specs.declared.Booking.{Booking}
 use Rattle.rule.specs.declared.Copy.{Copy}
@@ -27,14 +28,14 @@ module _ {A : Type 0} (f : A → Bool) (z : A) where
   abbrev pub None : List A → Type 0
   None xs = (i : ℕ) → f (getD xs i z) ≡ false
 
-  pub some-none : f z ≡ false → (xs : List A) → some f xs ≡ false → None xs
-  some-none h [] e i = h
-  some-none h (x ∷ xs) e zero = both-false (f x) (some f xs) e .0
-  some-none h (x ∷ xs) e (suc i) = some-none h xs (both-false (f x) (some f xs) e .1) i
+  pub none-at : f z ≡ false → (xs : List A) → some f xs ≡ false → None xs
+  none-at h [] e i = h
+  none-at h (x ∷ xs) e zero = both-false (f x) (some f xs) e .0
+  none-at h (x ∷ xs) e (suc i) = none-at h xs (both-false (f x) (some f xs) e .1) i
 
-  pub none-some : (xs : List A) → None xs → some f xs ≡ false
-  none-some [] n = refl
-  none-some (x ∷ xs) n = rw (n 0) (none-some xs (λ i. n (suc i)))
+  pub at-none : (xs : List A) → None xs → some f xs ≡ false
+  at-none [] n = refl
+  at-none (x ∷ xs) n = rw (n 0) (at-none xs (λ i. n (suc i)))
 
   none-lowest : (i : ℕ) (xs : List A) → None xs → lowestFrom f i xs ≡ nowhere
   none-lowest i [] n = refl
@@ -64,7 +65,7 @@ module _ (s : ℕ) (ls : List Stamped) (none : NoneStands s ls) (b : Booking) wh
   unfolding sightOf
   none-sight =
       rw (none-lowest (λ l. matches s b l && not (l .prf)) noLabel 0 ls (λ p. rw (none-matches p)))
-      (rw (none-some (λ l. matches s b l && l .prf) noLabel ls (λ p. rw (none-matches p))))
+      (rw (at-none (λ l. matches s b l && l .prf) noLabel ls (λ p. rw (none-matches p))))
 
 -- what a copy that is not live becomes, held or free
 abbrev rested : Bool → Copy
@@ -121,13 +122,13 @@ unfolding quiet stands
 quiet-is d q =
     let k = both-true (not (some (stands (d .clock)) (d .places))) (not (some liveTimer (d .timers))) q in
     record {
-      none-stands = some-none (stands (d .clock)) noLabel refl (d .places) (not-true _ (k .0));
-      none-lives = some-none liveTimer noTimer refl (d .timers) (not-true _ (k .1));
+      none-stands = none-at (stands (d .clock)) noLabel refl (d .places) (not-true _ (k .0));
+      none-lives = none-at liveTimer noTimer refl (d .timers) (not-true _ (k .1));
     }
 
 pub is-quiet : (d : Desk) → Quiet d → quiet d ≡ true
 unfolding quiet
-is-quiet d q = rw (none-some (stands (d .clock)) noLabel (d .places) (q .none-stands), none-some liveTimer noTimer (d .timers) (q .none-lives))
+is-quiet d q = rw (at-none (stands (d .clock)) noLabel (d .places) (q .none-stands), at-none liveTimer noTimer (d .timers) (q .none-lives))
 
 -- a second later, too
 pub none-stands-next : (d : Desk) → NoneStands (d .clock) (d .places) → NoneStands (suc (d .clock)) (d .places)

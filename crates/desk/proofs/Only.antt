@@ -4,8 +4,8 @@ use mathlib.Core.Path.{_≡_, refl, sym, _∙_}
 use mathlib.Core.Bool.{cond}
 use mathlib.Core.List.{List}
 use lib.Dec.{eqb}
-use Rattle.hamming.specs.Answer.{Answer, refused, given, Unique, number, after}
-use Rattle.hamming.proofs.Answers.{numbered}
+use Rattle.answer.specs.Answer.{Answer, refused, given, Unique, number, after}
+use Rattle.answer.proofs.Answers.{numbered}
 use Rattle.label.specs.declared.Refusal.the-variants.{Length, AddressDamaged, OtherPacket, DesignationDamaged, OtherDesignation, LabelDamaged}
 use Rattle.rule.specs.declared.Booking.{Booking}
 use Rattle.desk.specs.Calls.{Says, packetOf, waitOf, secondOf, addOf, cancelOf, askOf}

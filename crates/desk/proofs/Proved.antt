@@ -1,5 +1,5 @@
 -- The laws of the desk.
-use Rattle.hamming.proofs.Answers.{equation}
+use Rattle.answer.proofs.Answers.{equation}
 use Rattle.desk.specs.Moments.{fresh, liveCount}
 use Rattle.desk.specs.Laws.{Laws}
 use Rattle.desk.proofs.Settle.{moment-settled}

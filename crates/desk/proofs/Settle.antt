@@ -7,8 +7,9 @@ use native.Mathlib.Omega.{arith}
 use borrow.Author.Tests.{lt-ltb, not-true}
 use lib.Dec.{ltb}
 use lib.ListN.{getD}
-use Rattle.hamming.proofs.Cases.{both-true}
-use Rattle.rule.specs.Rule.{noLabel, endedAt, matches, Found, nowhere, at, lowestFrom, lowest, some, sightBy, sightOf, recordingAt, notLive, movesOr, fromRecording, runFor, fromRunningOn, goesOn, held, nextCopy, nextTimer}
+use Rattle.answer.proofs.Cases.{both-true}
+use Rattle.answer.specs.Lists.{some}
+use Rattle.rule.specs.Rule.{noLabel, endedAt, matches, Found, nowhere, at, lowestFrom, lowest, sightBy, sightOf, recordingAt, notLive, movesOr, fromRecording, runFor, fromRunningOn, goesOn, held, nextCopy, nextTimer}
 use Rattle.rule.specs.declared.Stamped.{Stamped}
 use Rattle.rule.specs.declared.Booking.{Booking}
 use Rattle.rule.specs.declared.Copy.{Copy}

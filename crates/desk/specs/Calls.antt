@@ -4,12 +4,13 @@ use mathlib.Core.Bool.{cond, not, _&&_, _||_}
 use mathlib.Core.List.{List, [], _∷_}
 use lib.Dec.{leb, ltb}
 use lib.ListN.{getD, set}
-use Rattle.hamming.specs.Answer.{Answer, Row, firstOf, andThen}
+use Rattle.answer.specs.Answer.{Answer, Row, firstOf, andThen}
 use Rattle.label.specs.declared.Label.{Label}
 use Rattle.label.specs.Packet.{readingOf}
 use Rattle.calendar.specs.Calendar.{windowIn, clockEnd}
 use Rattle.calendar.specs.declared.Window.{Window}
-use Rattle.rule.specs.Rule.{noLabel, heardAt, endedAt, held, Found, some, flag}
+use Rattle.answer.specs.Lists.{some}
+use Rattle.rule.specs.Rule.{noLabel, heardAt, endedAt, held, Found, flag}
 use Rattle.rule.specs.declared.Booking.{Booking}
 use Rattle.rule.specs.declared.Timer.{Timer}
 use Rattle.rule.specs.declared.Copy.{Copy}

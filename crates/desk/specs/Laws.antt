@@ -2,7 +2,7 @@
 use Prim.Native.Nat.{ℕ}
 use mathlib.Core.Path.{_≡_}
 use mathlib.Core.List.{List}
-use Rattle.hamming.specs.Answer.{Unique, number, after}
+use Rattle.answer.specs.Answer.{Unique, number, after}
 use Rattle.rule.specs.declared.Booking.{Booking}
 use Rattle.desk.specs.Moments.{fresh, moment, liveCount}
 use Rattle.desk.specs.Calls.{packetOf, waitOf, secondOf, addOf, cancelOf, askOf}

@@ -3,7 +3,8 @@ use Prim.Native.Nat.{ℕ, zero, suc, _-_}
 use mathlib.Core.Bool.{Bool, cond, not, _&&_}
 use mathlib.Core.List.{map}
 use lib.ListN.{replicate}
-use Rattle.rule.specs.Rule.{noLabel, stands, nextTimer, liveTimer, some}
+use Rattle.answer.specs.Lists.{some}
+use Rattle.rule.specs.Rule.{noLabel, stands, nextTimer, liveTimer}
 use Rattle.sixteen.specs.Sixteen.{noTimer, count}
 use Rattle.desk.specs.declared.Desk.{Desk}
 

@@ -1,6 +1,6 @@
 -- The paper's number and values for each answer of the desk, and what a call leaves of the desk.
 use Prim.Native.Nat.{ℕ}
-use Rattle.hamming.specs.Answer.{Answer, refused, given}
+use Rattle.answer.specs.Answer.{Answer, refused, given}
 use Rattle.label.specs.Packet.{refusalNumber}
 use Rattle.desk.specs.Calls.{Told, Says}
 use Rattle.desk.specs.declared.Desk.{Desk}

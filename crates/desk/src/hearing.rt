@@ -1,6 +1,6 @@
 // Packets: refused, read, and heard.
 ghost use mathlib.Core.Path.{_≡_};
-ghost use Rattle.hamming.specs.Answer.{firstOf, number, after};
+ghost use Rattle.answer.specs.Answer.{firstOf, number, after};
 ghost use Rattle.desk.specs.Calls.{tunerRows, labelRows, withLabel, hearingAt, hearing, packetOf};
 ghost use Rattle.desk.specs.Numbers.{packetNumber};
 use crate::Desk;

@@ -1,6 +1,6 @@
 // Moments, seconds and waits. The seconds after which a desk is quiet are not walked one by one: see `pass`.
 ghost use mathlib.Core.Path.{_≡_};
-ghost use Rattle.hamming.specs.Answer.{number, after};
+ghost use Rattle.answer.specs.Answer.{number, after};
 ghost use Rattle.desk.specs.Moments.{fresh, moment, clockedAt, quiet, passTo, walkedTo};
 ghost use Rattle.desk.specs.Calls.{waitOf, secondOf};
 ghost use Rattle.desk.specs.Numbers.{waitAnswer, saidBy, leftBy, secondNumber};

@@ -1,6 +1,6 @@
 // Adding and cancelling.
 ghost use mathlib.Core.Path.{_≡_};
-ghost use Rattle.hamming.specs.Answer.{firstOf, number, after};
+ghost use Rattle.answer.specs.Answer.{firstOf, number, after};
 ghost use Rattle.rule.specs.declared.Copy.the-variants.{Waiting};
 ghost use Rattle.sixteen.specs.Sixteen.{slotOf};
 ghost use Rattle.desk.specs.Moments.{moment};

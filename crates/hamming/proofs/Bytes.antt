@@ -8,7 +8,7 @@ use borrow.Author.Tests.{eq-eqb, ne-eqb, le-leb, leb-true}
 use lib.Dec.{T, eqb, leb, ltb, eqb→eq, leb→le, ltb→lt}
 use lib.Bits.{bitXor, xor-lt}
 use lib.ListN.{getD}
-use Rattle.hamming.proofs.All.{both, both-left, both-right, below, each, all-below, unless, asked}
+use Rattle.answer.proofs.All.{both, both-left, both-right, below, each, all-below, unless, asked}
 use Rattle.hamming.specs.Byte.{D, good, values, table, distance, nearTo, nearest, nibbleOf}
 use Rattle.hamming.specs.declared.Nibble.{Nibble}
 use Rattle.hamming.specs.declared.Nibble.the-variants.{Damaged, Value}

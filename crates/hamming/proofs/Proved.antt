@@ -1,12 +1,12 @@
 -- The laws of the Hamming byte.
 use mathlib.Core.Path.{_≡_, refl}
-use Rattle.hamming.specs.Answer.{Answer, refused, given}
+use Rattle.answer.specs.Answer.{Answer, refused, given}
 use Rattle.hamming.specs.Byte.{good, nibbleOf, codedAnswer, codingOf}
 use Rattle.hamming.specs.Laws.{Laws}
 use Rattle.hamming.specs.declared.Coded.{Coded}
 use Rattle.hamming.specs.declared.Coded.the-variants.{TooWide, Byte}
 use Prim.Native.Nat.{ℕ, _%_}
-use Rattle.hamming.proofs.Answers.{equation, numbered}
+use Rattle.answer.proofs.Answers.{equation, numbered}
 use Rattle.hamming.proofs.Bytes.{equations, far, one-near, near, only-near, two, sent}
 
 abbrev coded : Answer ℕ → Coded

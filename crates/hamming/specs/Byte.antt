@@ -3,7 +3,7 @@ use Prim.Native.Nat.{ℕ, zero, suc, _+_, _-_, _*_, _/_, _%_, _^_}
 use mathlib.Core.Bool.{Bool, cond}
 use mathlib.Core.List.{List, [], _∷_}
 use lib.Dec.{ltb, leb, eqb}
-use Rattle.hamming.specs.Answer.{Answer, refused, given, firstOf}
+use Rattle.answer.specs.Answer.{Answer, refused, given, firstOf}
 use Rattle.hamming.specs.declared.Nibble.{Nibble}
 use Rattle.hamming.specs.declared.Nibble.the-variants.{Damaged, Value}
 use Rattle.hamming.specs.declared.Coded.{Coded}

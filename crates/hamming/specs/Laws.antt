@@ -2,7 +2,7 @@
 use Prim.Native.Nat.{ℕ, _≤_, _<_, _%_}
 use mathlib.Core.Path.{_≡_}
 use mathlib.Core.List.{map}
-use Rattle.hamming.specs.Answer.{Unique}
+use Rattle.answer.specs.Answer.{Unique}
 use Rattle.hamming.specs.Byte.{good, values, table, distance, nibbleOf, codedAnswer, codingOf}
 use Rattle.hamming.specs.declared.Nibble.the-variants.{Damaged, Value}
 

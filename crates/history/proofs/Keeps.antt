@@ -8,13 +8,14 @@ use native.Mathlib.Omega.{arith}
 use borrow.Author.Tests.{eqb-true, eqb-false, eq-eqb, ne-eqb, not-true}
 use lib.Dec.{eqb}
 use lib.ListN.{length, getD, length-map, length-set}
-use Rattle.hamming.specs.Answer.{given}
+use Rattle.answer.specs.Answer.{given}
 use Rattle.label.specs.declared.Label.{Label}
 use Rattle.label.specs.Pil.{serviceOf}
 use Rattle.calendar.specs.declared.Window.{Window}
 use Rattle.calendar.specs.Calendar.{windowIn, clockEnd}
-use Rattle.hamming.proofs.Cases.{both-true}
-use Rattle.rule.specs.Rule.{noLabel, stands, stamped, renewed, isContinuation, heardAt, openAt, endedAt, held, nextCopy, nextTimer, isLive, some}
+use Rattle.answer.proofs.Cases.{both-true}
+use Rattle.answer.specs.Lists.{some}
+use Rattle.rule.specs.Rule.{noLabel, stands, stamped, renewed, isContinuation, heardAt, openAt, endedAt, held, nextCopy, nextTimer, isLive}
 use Rattle.rule.specs.declared.Stamped.{Stamped}
 use Rattle.rule.specs.declared.Booking.{Booking}
 use Rattle.rule.specs.declared.Copy.the-variants.{Waiting}
@@ -24,7 +25,7 @@ use Rattle.sixteen.specs.Sixteen.{noTimer, active, sameBooking}
 use Rattle.desk.specs.Moments.{fresh, moment, clockedAt, nextSecond, walk, passTo}
 use Rattle.desk.specs.Calls.{placeOf, withLabel, withTimer, timerAt}
 use Rattle.desk.proofs.Settle.{moment-settled}
-use Rattle.desk.proofs.Jump.{some-none, timerAt-moment}
+use Rattle.desk.proofs.Jump.{none-at, timerAt-moment}
 use Rattle.history.specs.Run.{Call, outcome, left, deskAfter, reached}
 use Rattle.history.specs.Laws.{SinceBy, Sound}
 use Rattle.history.proofs.Lists.{getD-set, getD-same}
@@ -172,7 +173,7 @@ module _ (d : Desk) (h : Sound d) where
   -- the test of refusal 13
   unlike : (b : Booking) → some (λ t. active (d .clock) t && sameBooking b (t .booking)) (d .timers) ≡ false →
       (i : ℕ) → active (d .clock) (timerAt d i) ≡ true → sameBooking b (timerAt d i .booking) ≡ false
-  unlike b e i a = rw a at (some-none (λ t. active (d .clock) t && sameBooking b (t .booking)) noTimer refl (d .timers) e i)
+  unlike b e i a = rw a at (none-at (λ t. active (d .clock) t && sameBooking b (t .booking)) noTimer refl (d .timers) e i)
 
   pub keeps : {c : Call} {e : Desk} → Step d c e → Sound e
   keeps same = h

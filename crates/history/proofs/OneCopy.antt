@@ -6,7 +6,7 @@ use borrow.Author.Tests.{eqb-true, eq-eqb}
 use lib.Dec.{eqb}
 use Rattle.calendar.specs.Laws.{InWindow}
 use Rattle.calendar.proofs.Proved as calendar
-use Rattle.hamming.proofs.Cases.{both-true}
+use Rattle.answer.proofs.Cases.{both-true}
 use Rattle.rule.specs.Rule.{held, isLive, liveTimer}
 use Rattle.rule.specs.declared.Copy.{Copy}
 use Rattle.rule.specs.declared.Copy.the-variants.{Free, Waiting, Prepared, Recording, RunningOn}

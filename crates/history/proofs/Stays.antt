@@ -8,7 +8,7 @@ use native.Mathlib.Omega.{arith}
 use borrow.Author.Tests.{leb-true, le-leb, eq-eqb, not-true}
 use lib.Dec.{leb, eqb}
 use lib.ListN.{getD}
-use Rattle.hamming.proofs.Cases.{both-true}
+use Rattle.answer.proofs.Cases.{both-true}
 use Rattle.rule.specs.Rule.{noLabel, standFor, stands, openAt, matches, at, recordingAt, fromRecording, nextCopy, nextTimer}
 use Rattle.rule.specs.declared.Stamped.{Stamped}
 use Rattle.rule.specs.declared.Booking.{Booking}

@@ -5,12 +5,13 @@ use mathlib.Core.Bool.{Bool, true, false, cond, _&&_, true≢false}
 use mathlib.Core.List.{List, [], _∷_}
 use borrow.Author.Tests.{leb-false, ltb-false}
 use lib.Dec.{leb}
-use Rattle.hamming.specs.Answer.{Answer, refused, given, Row, firstOf, andThen}
+use Rattle.answer.specs.Answer.{Answer, refused, given, Row, firstOf, andThen}
 use Rattle.label.specs.declared.Label.{Label}
 use Rattle.label.specs.Packet.{readingOf}
 use Rattle.calendar.specs.declared.Window.{Window}
 use Rattle.calendar.specs.Calendar.{windowIn, clockEnd}
-use Rattle.rule.specs.Rule.{Found, nowhere, at, some}
+use Rattle.answer.specs.Lists.{some}
+use Rattle.rule.specs.Rule.{Found, nowhere, at}
 use Rattle.rule.specs.declared.Booking.{Booking}
 use Rattle.rule.specs.declared.Copy.the-variants.{Waiting}
 use Rattle.desk.specs.declared.Desk.{Desk}

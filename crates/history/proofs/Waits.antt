@@ -6,7 +6,7 @@ use native.Mathlib.Decide.{decLt}
 use native.Mathlib.Omega.{arith}
 use borrow.Author.Tests.{lt-ltb, le-ltb}
 use lib.Dec.{ltb}
-use Rattle.hamming.specs.Answer.{Answer, refused, given, Row, firstOf, andThen}
+use Rattle.answer.specs.Answer.{Answer, refused, given, Row, firstOf, andThen}
 use Rattle.label.specs.Packet.{readingOf}
 use Rattle.calendar.specs.Calendar.{clockEnd}
 use Rattle.desk.specs.declared.Desk.{Desk}

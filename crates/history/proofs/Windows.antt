@@ -5,11 +5,11 @@ use mathlib.Core.Bool.{true, false, _&&_, true≢false}
 use native.Mathlib.Omega.{arith}
 use borrow.Author.Tests.{leb-true, leb-false, ltb-true, lt-ltb, le-leb, lt-leb}
 use lib.Dec.{leb, ltb, eqb}
-use Rattle.hamming.specs.Answer.{Answer, refused, given}
+use Rattle.answer.specs.Answer.{Answer, refused, given}
 use Rattle.calendar.specs.declared.Window.{Window}
 use Rattle.calendar.specs.Calendar.{windowIn}
 use Rattle.calendar.specs.Laws.{InWindow}
-use Rattle.hamming.proofs.Cases.{both-true}
+use Rattle.answer.proofs.Cases.{both-true}
 use Rattle.calendar.proofs.Windows.{windowIn-given}
 use Rattle.rule.specs.Rule.{stands, openIn, openAt, closedIn, endedAt, matches}
 use Rattle.rule.specs.declared.Stamped.{Stamped}

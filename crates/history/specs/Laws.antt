@@ -6,7 +6,7 @@ use mathlib.Core.List.{List, [], _∷_, _++_, map}
 use mathlib.Core.Logic.{_⊎_}
 use lib.Dec.{eqb}
 use lib.ListN.{length, getD}
-use Rattle.hamming.specs.Answer.{Answer, refused, given}
+use Rattle.answer.specs.Answer.{Answer, refused, given}
 use Rattle.calendar.specs.Calendar.{clockEnd, windowIn}
 use Rattle.calendar.specs.declared.Window.{Window}
 use Rattle.rule.specs.Rule.{noLabel, stands, openAt, matches, recordingAt, nextCopy, held, isLive, liveTimer}

@@ -7,14 +7,16 @@ use native.Mathlib.Omega.{arith}
 use borrow.Author.Tests.{ne-eqb, ltb-true, le-ltb}
 use lib.Dec.{ltb}
 use lib.ListN.{length, getD, take, drop}
-use Rattle.hamming.specs.Answer.{refused, Row, firstOf}
+use Rattle.answer.specs.Answer.{refused, Row, firstOf}
 use Rattle.hamming.specs.Byte.{nibbleOf}
 use Rattle.hamming.specs.declared.Nibble.the-variants.{Damaged, Value}
 use Rattle.hamming.proofs.Bytes as bytes
 use Rattle.label.specs.Layout.{labelBy}
 use Rattle.label.specs.Packet.{readerRows, readingOf, labelIn, nibbleAt, valueAt, valueOf, damagedAt, damaged, hammingBytes, labelBytes}
-use Rattle.label.specs.Laws.{member, AtEach, Good, OneWrong, TwoWrong, damageNumber, sooner}
-use Rattle.label.proofs.Every.{All, all-map, every, listed, each-listed, unlisted, any-same, none-any, any-one, one-more}
+use Rattle.answer.specs.Lists.{member}
+use Rattle.label.specs.Laws.{AtEach, Good, OneWrong, TwoWrong, damageNumber, sooner}
+use Rattle.answer.proofs.Every.{All, all-map, every, listed, each-listed, unlisted, some-same, none-some, some-one}
+use Rattle.label.proofs.Sooner.{one-more}
 use Rattle.label.proofs.Places.{sentBytes, field-same}
 
 -- ── the sixteen nibbles ────────────────────────────────────────────────────────────────────────────────────────────
@@ -22,7 +24,7 @@ by-nibbles : (p q : List ℕ) → length p ≡ length q → AtEach (λ i. nibble
 unfolding readingOf
 by-nibbles p q h e =
     let n = unlisted hammingBytes e in
-    let d = any-same (damagedAt p) (damagedAt q) labelBytes false
+    let d = some-same (damagedAt p) (damagedAt q) labelBytes
     (all-map (λ i. nibbleAt p i ≡ nibbleAt q i) (λ i. damagedAt p i ≡ damagedAt q i) (λ i e. ap damaged e) labelBytes (n .1 .1 .1)) in
     let v = all-map (λ i. nibbleAt p i ≡ nibbleAt q i) (λ i. valueAt p i ≡ valueAt q i) (λ i e. ap valueOf e) sentBytes (n .1 .1) in
     let rows : readerRows p ≡ readerRows q = rw (h, n .0, n .1 .0, n .1 .1 .0, d) in
@@ -81,7 +83,7 @@ module _ (p q : List ℕ) (hp : length p ≡ 42) (hq : length q ≡ 42) (clean :
       let n₁ = a .1 1 refl (omega arith) in
       let n₂ = a .1 2 refl (omega arith) in
       rw (le-ltb j 2 (omega arith), ne-eqb j 2 (omega arith))
-      (turned p q 5 6 (rw (hq, hp, n₀, n₁, n₂, any-one (damagedAt q) labelBytes false j m (a .0))) (rw (none-any (damagedAt p) labelBytes (clean .1 .1 .1))) refl refl)
+      (turned p q 5 6 (rw (hq, hp, n₀, n₁, n₂, some-one (damagedAt q) labelBytes j m (a .0))) (rw (none-some (damagedAt p) labelBytes (clean .1 .1 .1))) refl refl)
 
   told : AtEach Told
   told =

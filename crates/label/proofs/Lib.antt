@@ -1,4 +1,4 @@
-pub mod Every
+pub mod Sooner
 pub mod Tests
 pub mod Rows
 pub mod Puts

@@ -11,7 +11,7 @@ use lib.ListN.{getD}
 use Rattle.hamming.specs.Byte.{D, nibbleOf}
 use Rattle.hamming.specs.declared.Nibble.{Nibble}
 use Rattle.hamming.specs.declared.Nibble.the-variants.{Damaged, Value}
-use Rattle.hamming.proofs.All.{below, each}
+use Rattle.answer.proofs.All.{below, each}
 use Rattle.hamming.proofs.Bytes.{value-small}
 use Rattle.label.specs.Layout.{numberFrom, four}
 use Rattle.label.specs.Packet.{damaged, valueOf}

@@ -9,14 +9,14 @@ use borrow.Author.Tests.{eqb-true, ne-eqb, ltb-true}
 use lib.Dec.{eqb, ltb}
 use lib.ListN.{length}
 use Rattle.hamming.specs.Byte.{D}
-use Rattle.hamming.proofs.Cases.{both-true}
+use Rattle.answer.proofs.Cases.{both-true}
 use Rattle.label.specs.declared.Label.{Label}
 use Rattle.label.specs.Layout.{Field, designation, lci, luf, prf, pcs, mi, spare, cni, pil, pty, fields, Position, positions, fieldOf, labelBy, numberFrom, bitAt, fieldBy, bits, fieldBits, zip, bitsOf, lookup, sentAt, four, sentIn}
 use Rattle.label.specs.Packet.{valueFor, labelBytes}
-use Rattle.label.specs.Laws.{member}
+use Rattle.answer.specs.Lists.{member}
 use Rattle.label.proofs.Digits.{number-of-bits, number-small, bits-of-number}
 use Rattle.label.proofs.Nibbles.{low-four, four-number, four-bits, four-small}
-use Rattle.label.proofs.Every.{no-way, All, all-append, every, tested, map-same, map-all, listed, each-listed}
+use Rattle.answer.proofs.Every.{no-way, All, all-append, every, tested, map-same, map-all, listed, each-listed}
 
 -- ── a value and its data bits ──────────────────────────────────────────────────────────────────────────────────────
 bit-small : (k v : ℕ) → D k v < 2

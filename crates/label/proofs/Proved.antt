@@ -6,8 +6,8 @@ use native.Mathlib.Omega.{arith}
 use native.Mathlib.Nat.{div-add-mod', div-div-eq-div-mul, mod-eq-of-lt}
 use borrow.Author.Tests.{eqb-true, ltb-true, ne-eqb}
 use lib.Dec.{eqb}
-use Rattle.hamming.specs.Answer.{Answer, refused, given, after, number, Unique}
-use Rattle.hamming.proofs.Answers.{equation, numbered, paired}
+use Rattle.answer.specs.Answer.{Answer, refused, given, after, number, Unique}
+use Rattle.answer.proofs.Answers.{equation, numbered, paired}
 use Rattle.label.specs.declared.Label.{Label}
 use Rattle.label.specs.declared.Refusal.{Refusal}
 use Rattle.label.specs.declared.Refusal.the-variants.{Length, AddressDamaged, OtherPacket, DesignationDamaged, OtherDesignation, LabelDamaged}

@@ -8,10 +8,11 @@ use borrow.Author.Tests.{eqb-true, eqb-false}
 use lib.Dec.{eqb}
 use lib.ListN.{length, getD, set, length-set}
 use lib.Seq.{getD-set-same, getD-set-other, lt-length-set}
-use Rattle.hamming.proofs.Cases.{both-false}
-use Rattle.label.specs.Packet.{put, any, anyFrom}
-use Rattle.label.specs.Laws.{member}
-use Rattle.label.proofs.Every.{All, no-way}
+use Rattle.answer.proofs.Cases.{both-false}
+use Rattle.answer.specs.Lists.{some}
+use Rattle.label.specs.Packet.{put}
+use Rattle.answer.specs.Lists.{member}
+use Rattle.answer.proofs.Every.{All, no-way, some-more}
 
 -- ── what stands there ──────────────────────────────────────────────────────────────────────────────────────────────
 pub put-length : (f : ℕ → ℕ) (is p : List ℕ) → length (put f is p) ≡ length p
@@ -47,10 +48,6 @@ put-more : (f : ℕ → ℕ) (is : List ℕ) (j : ℕ) (p : List ℕ) → put f 
 put-more f [] j p = refl
 put-more f (i ∷ is) j p = put-more f is j (set p i (f i))
 
-any-more : {A : Type 0} (f : A → Bool) (xs : List A) (y : A) (t : Bool) → anyFrom t f (xs ++ (y ∷ [])) ≡ anyFrom t f xs || f y
-any-more f [] y t = refl
-any-more f (x ∷ xs) y t = any-more f xs y (t || f x)
-
 -- equal elements stored in equal lists
 pub stored : (i : ℕ) {p q : List ℕ} {a b : ℕ} → p ≡ q → a ≡ b → set p i a ≡ set q i b
 stored i e h = ap₂ (λ (x : List ℕ) (y : ℕ). set x i y) e h
@@ -70,5 +67,5 @@ run-more a i h =
 pub put-run : (f : ℕ → ℕ) (a i : ℕ) → a ≤ i → (p : List ℕ) {q : List ℕ} {b : ℕ} → q ≡ put f (run a (i - a)) p → b ≡ f i → set q i b ≡ put f (run a (i + 1 - a)) p
 put-run f a i h p e g = stored i e g ∙ sym (put-more f (run a (i - a)) i p) ∙ ap (λ (is : List ℕ). put f is p) (sym (run-more a i h))
 
-pub any-run : (f : ℕ → Bool) (a i : ℕ) → a ≤ i → {t b : Bool} → t ≡ any f (run a (i - a)) → b ≡ f i → t || b ≡ any f (run a (i + 1 - a))
-any-run f a i h e g = ap₂ (λ (x : Bool) (y : Bool). x || y) e g ∙ sym (any-more f (run a (i - a)) i _) ∙ ap (any f) (sym (run-more a i h))
+pub some-run : (f : ℕ → Bool) (a i : ℕ) → a ≤ i → {t b : Bool} → t ≡ some f (run a (i - a)) → b ≡ f i → t || b ≡ some f (run a (i + 1 - a))
+some-run f a i h e g = ap₂ (λ (x : Bool) (y : Bool). x || y) e g ∙ sym (some-more f (run a (i - a)) i) ∙ ap (some f) (sym (run-more a i h))

@@ -6,17 +6,18 @@ use mathlib.Core.List.{List}
 use borrow.Author.Tests.{eq-eqb, eqb-true, ltb-true, lt-leb, leb-false, not-false}
 use lib.Dec.{eqb, ltb}
 use lib.ListN.{length, getD}
-use Rattle.hamming.specs.Answer.{given}
+use Rattle.answer.specs.Answer.{given}
 use Rattle.hamming.specs.Byte.{good, nibbleOf}
 use Rattle.hamming.specs.declared.Nibble.{Nibble}
 use Rattle.hamming.specs.declared.Nibble.the-variants.{Damaged, Value}
 use Rattle.hamming.proofs.Bytes as bytes
-use Rattle.hamming.proofs.Cases.{both-true, both-false}
+use Rattle.answer.proofs.Cases.{both-true, both-false}
 use Rattle.label.specs.declared.Label.{Label}
 use Rattle.label.specs.Layout.{Field, designation, fields, positions, fieldOf, labelBy, fieldBy}
-use Rattle.label.specs.Packet.{readerRows, readingOf, labelIn, writerRows, writingOf, put, byteFor, valueFor, nibbleAt, valueAt, valueOf, damagedAt, damaged, format2, unfit, tooWide, any, hammingBytes, labelBytes}
-use Rattle.label.specs.Laws.{member}
-use Rattle.label.proofs.Every.{no-way, All, all-of, all-map, listed, each-listed, unlisted, any-none, none-any, Passed, passed, accepted}
+use Rattle.answer.specs.Lists.{some}
+use Rattle.label.specs.Packet.{readerRows, readingOf, labelIn, writerRows, writingOf, put, byteFor, valueFor, nibbleAt, valueAt, valueOf, damagedAt, damaged, format2, unfit, tooWide, hammingBytes, labelBytes}
+use Rattle.answer.specs.Lists.{member}
+use Rattle.answer.proofs.Every.{no-way, All, all-of, all-map, listed, each-listed, unlisted, some-none, none-some, Passed, passed, accepted}
 use Rattle.label.proofs.Puts.{put-length, put-in, put-other, put-same}
 use Rattle.label.proofs.Places.{fielded, sentBytes, field-same, designation-of, value-small, field-back, field-fits, sent-again}
 
@@ -25,12 +26,12 @@ module _ (l : Label) (u : unfit l ≡ false) where
   fits : (f : Field) → fieldOf f l < 2 ^ length (positions f)
   fits f =
       leb-false (2 ^ length (positions f)) (fieldOf f l)
-      (fielded (λ f. tooWide l f ≡ false) (any-none (tooWide l) fields false ((both-false (any (tooWide l) fields) (not (format2 (l .designation))) u) .0)) f)
+      (fielded (λ f. tooWide l f ≡ false) (some-none (tooWide l) fields ((both-false (some (tooWide l) fields) (not (format2 (l .designation))) u) .0)) f)
 
   format : format2 (valueFor l 2) ≡ true
   format =
       ap format2 (sym (designation-of (valueFor l) (value-small l 2)) ∙ field-back l designation (fits designation))
-      ∙ not-false (format2 (l .designation)) ((both-false (any (tooWide l) fields) (not (format2 (l .designation))) u) .1)
+      ∙ not-false (format2 (l .designation)) ((both-false (some (tooWide l) fields) (not (format2 (l .designation))) u) .1)
 
   -- a packet with the values of the label reads as the label
   reads : (q : List ℕ) → length q ≡ 42 → All (λ i. nibbleAt q i ≡ Value (valueFor l i)) hammingBytes → readingOf q ≡ given l
@@ -42,7 +43,7 @@ module _ (l : Label) (u : unfit l ≡ false) where
         rw (eq-eqb (length q) 42 h),
         (
           rw (n .0, n .1 .0),
-          (rw (n .0, n .1 .0), (rw (n .1 .1 .0), (rw (n .1 .1 .0, format), (none-any (damagedAt q) labelBytes whole, tt)))),
+          (rw (n .0, n .1 .0), (rw (n .1 .1 .0), (rw (n .1 .1 .0, format), (none-some (damagedAt q) labelBytes whole, tt)))),
         ),
       )
       ∙ ap given (ap labelBy (fun-ext (λ f. field-same (valueAt q) (valueFor l) values f ∙ field-back l f (fits f))))
@@ -80,7 +81,7 @@ module _ (p : List ℕ) (t : Passed (readerRows p)) where
   small : All (λ i. valueAt p i < 16) sentBytes
   small =
       all-map (λ i. damagedAt p i ≡ false) (λ i. valueAt p i < 16) (λ i e. bytes.value-small (getD p i 0) (valueAt p i) (whole-value (nibbleAt p i) e)) sentBytes
-      (t .1 .1 .1 .0, any-none (damagedAt p) labelBytes false (t .1 .1 .1 .1 .1 .0))
+      (t .1 .1 .1 .0, some-none (damagedAt p) labelBytes (t .1 .1 .1 .1 .1 .0))
 
   address : (eqb (valueAt p 0) 0 && eqb (valueAt p 1) 15) ≡ true
   address = not-false (eqb (valueAt p 0) 0 && eqb (valueAt p 1) 15) (t .1 .1 .0)
@@ -96,7 +97,7 @@ module _ (p : List ℕ) (t : Passed (readerRows p)) where
 
   fit : unfit (labelIn p) ≡ false
   fit =
-      let a = none-any (tooWide (labelIn p)) fields
+      let a = none-some (tooWide (labelIn p)) fields
       (all-of (λ f. lt-leb (2 ^ length (positions f)) (fieldOf f (labelIn p)) (field-fits (valueAt p) f)) fields) in
       ap (λ (b : Bool). b || not (format2 (fieldBy (valueAt p) designation))) a
       ∙ ap (λ (d : ℕ). not (format2 d)) (designation-of (valueAt p) (small .0)) ∙ t .1 .1 .1 .1 .0

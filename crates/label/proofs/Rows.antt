@@ -7,7 +7,7 @@ use native.Mathlib.Omega.{arith}
 use borrow.Author.Tests.{eq-eqb, ne-eqb}
 use lib.Dec.{eqb}
 use lib.ListN.{length}
-use Rattle.hamming.specs.Answer.{refused, given, Row, firstOf}
+use Rattle.answer.specs.Answer.{refused, given, Row, firstOf}
 
 abbrev pub testAt : ℕ → List Row → Bool
 testAt k [] = false

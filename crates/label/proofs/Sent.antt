@@ -11,7 +11,7 @@ use Rattle.label.specs.Layout.{cni, Position, numberFrom, bitAt, fieldBy
 use Rattle.label.specs.Number.{inOrder, numberBy}
 use Rattle.label.specs.Packet.{byteFor, labelBytes}
 use Rattle.label.proofs.Digits.{and-then, and-low, after, in-turn, number-small, midst}
-use Rattle.label.proofs.Every.{All}
+use Rattle.answer.proofs.Every.{All}
 use Rattle.label.proofs.Nibbles.{low-four, four-number, turned, turned-back}
 use Rattle.label.proofs.Places.{bit-in, sent-small}
 use Rattle.label.proofs.Puts.{run, run-more}

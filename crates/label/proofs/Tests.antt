@@ -1,7 +1,7 @@
 -- The writer's test: a label that fits.
 use Prim.Native.Nat.{ℕ, _<_}
 use mathlib.Core.Path.{_≡_, refl}
-use mathlib.Core.Bool.{Bool, true, false, not, _||_, or-true, or-false}
+use mathlib.Core.Bool.{Bool, true, false, not, _||_, or-true, or-false, or-assoc}
 use native.Mathlib.Omega.{arith}
 use borrow.Author.Tests.{lt-leb, eqb-true}
 use lib.Dec.{leb, eqb}
@@ -25,8 +25,8 @@ unfit-by l p q = rw (lt-leb 65536 (l .cni) p, lt-leb 256 (l .pty) q) (go (format
     x = leb 4 (l .lci) || leb 2 (l .luf) || leb 2 (l .prf) || leb 4 (l .pcs) || leb 2 (l .mi) || leb 2 (l .spare)
 
     y : Bool
-    y = leb 16 (l .designation) || leb 4 (l .lci) || leb 2 (l .luf) || leb 2 (l .prf) || leb 4 (l .pcs) || leb 2 (l .mi) || leb 2 (l .spare)
+    y = leb 4 (l .lci) || (leb 2 (l .luf) || (leb 2 (l .prf) || (leb 4 (l .pcs) || (leb 2 (l .mi) || (leb 2 (l .spare) || (leb 1048576 (l .pil) || (false || false)))))))
 
-    go : (t : Bool) → format2 (l .designation) ≡ t → x || leb 1048576 (l .pil) || not (format2 (l .designation)) ≡ y || false || leb 1048576 (l .pil) || false || not (format2 (l .designation))
-    go true e = simp (or-false, lt-leb 16 (l .designation) (format-small (l .designation) e), e)
+    go : (t : Bool) → format2 (l .designation) ≡ t → x || leb 1048576 (l .pil) || not (format2 (l .designation)) ≡ (leb 16 (l .designation) || y) || not (format2 (l .designation))
+    go true e = simp (or-assoc, or-false, lt-leb 16 (l .designation) (format-small (l .designation) e), e)
     go false e = simp (or-true, e)

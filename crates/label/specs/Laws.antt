@@ -1,11 +1,12 @@
 -- What is claimed of reader, writer and PIL. Proved in proofs/Proved.antt.
 use Prim.Native.Nat.{ℕ, _≤_, _<_}
 use mathlib.Core.Path.{_≡_}
-use mathlib.Core.Bool.{Bool, true, false, cond, _||_}
-use mathlib.Core.List.{List, [], _∷_}
+use mathlib.Core.Bool.{true, false, cond}
+use mathlib.Core.List.{List}
 use lib.Dec.{eqb, ltb}
 use lib.ListN.{length, getD}
-use Rattle.hamming.specs.Answer.{Answer, refused, given, after, number, Unique}
+use Rattle.answer.specs.Answer.{Answer, refused, given, after, number, Unique}
+use Rattle.answer.specs.Lists.{member}
 use Rattle.hamming.specs.Byte.{good, distance}
 use Rattle.label.specs.declared.Label.{Label}
 use Rattle.label.specs.declared.Refusal.{Refusal}
@@ -13,10 +14,6 @@ use Rattle.label.specs.declared.Written.{Written}
 use Rattle.label.specs.declared.pil.Service.the-variants.{Programme, TimerControl, InhibitTerminate, Interruption, Continuation, NoSpecificValue}
 use Rattle.label.specs.Packet.{refusalNumber, readingAnswer, readingOf, writtenNumber, writingOf, put, valueAt, hammingBytes}
 use Rattle.label.specs.Pil.{partsOf, serviceOf}
-
-abbrev pub member : ℕ → List ℕ → Bool
-member i [] = false
-member i (j ∷ js) = eqb i j || member i js
 
 -- something holds at each of the sixteen bytes
 abbrev pub AtEach : (ℕ → Type 0) → Type 0

@@ -4,7 +4,8 @@ use mathlib.Core.Bool.{Bool, true, false, cond, not, _&&_, _||_}
 use mathlib.Core.List.{List, [], _∷_}
 use lib.Dec.{leb, eqb}
 use lib.ListN.{length, getD, set}
-use Rattle.hamming.specs.Answer.{Answer, refused, given, Row, firstOf}
+use Rattle.answer.specs.Answer.{Answer, refused, given, Row, firstOf}
+use Rattle.answer.specs.Lists.{some}
 use Rattle.hamming.specs.Byte.{good, nibbleOf}
 use Rattle.hamming.specs.declared.Nibble.{Nibble}
 use Rattle.hamming.specs.declared.Nibble.the-variants.{Damaged, Value}
@@ -44,14 +45,6 @@ valueOf (Value v) = v
 abbrev pub valueAt : List ℕ → ℕ → ℕ
 valueAt p i = valueOf (nibbleAt p i)
 
-abbrev pub anyFrom : {A : Type 0} → Bool → (A → Bool) → List A → Bool
-anyFrom t f [] = t
-anyFrom t f (x ∷ xs) = anyFrom (t || f x) f xs
-
--- one of the listed passes the test
-abbrev pub any : {A : Type 0} → (A → Bool) → List A → Bool
-any f xs = anyFrom false f xs
-
 -- 'designation, 2 or 3 for format 2'
 abbrev pub format2 : ℕ → Bool
 format2 d = eqb d 2 || eqb d 3
@@ -65,7 +58,7 @@ readerRows p =
     ∷ (not (eqb (valueAt p 0) 0 && eqb (valueAt p 1) 15), 3)  -- not 8/30
     ∷ (damagedAt p 2, 4)  -- byte 2 damaged
     ∷ (not (format2 (valueAt p 2)), 5)  -- designation not 2 or 3
-    ∷ (any (damagedAt p) labelBytes, 6)  -- one of bytes 9 to 21 damaged
+    ∷ (some (damagedAt p) labelBytes, 6)  -- one of bytes 9 to 21 damaged
     ∷ []
 
 -- 'the reader gives all fields and the designation'
@@ -94,7 +87,7 @@ tooWide l f = leb (2 ^ length (positions f)) (fieldOf f l)
 
 -- 'a field wider than its bits, or designation not 2 or 3'
 abbrev pub unfit : Label → Bool
-unfit l = any (tooWide l) fields || not (format2 (l .designation))
+unfit l = some (tooWide l) fields || not (format2 (l .designation))
 
 -- 'writer: 1, 16'
 abbrev pub writerRows : Label → List ℕ → List Row

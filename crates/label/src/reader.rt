@@ -3,10 +3,11 @@ ghost use mathlib.Core.Path.{_≡_};
 ghost use mathlib.Core.List.{_∷_, []};
 ghost use Prim.Native.Nat.{ℕ, _<_};
 ghost use lib.ListN.{length};
+ghost use Rattle.answer.specs.Lists.{some};
 ghost use Rattle.hamming.specs.Byte.{D, nibbleOf};
 ghost use Rattle.label.specs.Layout.{numberFrom, bitAt, fieldBy, labelBy};
 ghost use Rattle.label.specs.Number.{numberBy};
-ghost use Rattle.label.specs.Packet.{valueOf, valueAt, damagedAt, any, labelBytes, readingAnswer, readingOf};
+ghost use Rattle.label.specs.Packet.{valueOf, valueAt, damagedAt, labelBytes, readingAnswer, readingOf};
 use crate::Label;
 use crate::Reading;
 use crate::Refusal;
@@ -56,7 +57,7 @@ pub(crate) fn turned(v: u8) -> u8
 
 fn nibbles(bytes: &[u8]) -> Sent
     requires { ⌜ length (now bytes) ≡ 42 ⌝ }
-    ensures { λ r. ⌜ (r .damaged ≡ any (damagedAt (now (bytes .entry))) labelBytes) × (r .number ≡ numberBy (bitAt (valueAt (now (bytes .entry)))) labelBytes) ⌝ }
+    ensures { λ r. ⌜ (r .damaged ≡ some (damagedAt (now (bytes .entry))) labelBytes) × (r .number ≡ numberBy (bitAt (valueAt (now (bytes .entry)))) labelBytes) ⌝ }
 {
     let mut number: u64 = 0;
     let mut damaged = false;

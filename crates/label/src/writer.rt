@@ -2,7 +2,7 @@
 ghost use mathlib.Core.Path.{_≡_};
 ghost use mathlib.Core.List.{_∷_, []};
 ghost use lib.ListN.{length};
-ghost use Rattle.hamming.specs.Answer.{number, after};
+ghost use Rattle.answer.specs.Answer.{number, after};
 ghost use Rattle.label.specs.Layout.{sentAt};
 ghost use Rattle.label.specs.Number.{numberBy};
 ghost use Rattle.label.specs.Packet.{unfit, put, byteFor, labelBytes, writtenNumber, writingOf};

@@ -12,7 +12,7 @@ use Rattle.desk.specs.Calls.{withLabel, withTimer, hearingAt, packetOf, waitOf,
 use Rattle.sheet.specs.Sheet.{decimal, packetLine, timerTold, timerLeft, packetTold, packetLeft, packetsFrom, timersFrom, sheetOf}
 use Rattle.history.specs.Run.{Call, packet, wait, add, ask, live, Done, outcome, answersOf, deskAfter}
 use Rattle.desk.proofs.Fast.{fastTo, fast-pass}
-use Rattle.hamming.specs.Answer.{Answer, given}
+use Rattle.answer.specs.Answer.{Answer, given}
 use Rattle.label.specs.Packet.{labelIn}
 use Rattle.rule.specs.declared.Booking.{Booking}
 use Rattle.rule.specs.declared.Copy.the-variants.{Waiting}

@@ -4,7 +4,7 @@ use mathlib.Core.Bool.{Bool, true, false}
 use mathlib.Core.Path.{_≡_}
 use mathlib.Core.List.{List, [], _∷_, _++_, map}
 use lib.ListN.{replicate, getD}
-use Rattle.hamming.specs.Answer.{Answer, refused, given, after}
+use Rattle.answer.specs.Answer.{Answer, refused, given, after}
 use Rattle.hamming.specs.Byte.{nibbleOf}
 use Rattle.calendar.specs.declared.Window.{Window}
 use Rattle.calendar.specs.Calendar.{closesAt, windowIn}

@@ -3,7 +3,7 @@ use Prim.Native.Nat.{ℕ}
 use mathlib.Core.Path.{_≡_, sym, ap, _∙_}
 use mathlib.Core.List.{List}
 use lib.ListN.{length}
-use Rattle.hamming.specs.Answer.{Answer, refused, given, number, after, andThen}
+use Rattle.answer.specs.Answer.{Answer, refused, given, number, after, andThen}
 use Rattle.label.specs.declared.Label.{Label}
 use Rattle.label.specs.declared.Written.{Written}
 use Rattle.label.specs.Packet.{readingOf, writtenNumber, writingOf}

@@ -4,7 +4,8 @@ use mathlib.Core.Bool.{Bool, not}
 use mathlib.Core.List.{List, [], _∷_}
 use lib.Dec.{eqb}
 use lib.ListN.{length, getD}
-use Rattle.hamming.specs.Answer.{Answer, refused, given, firstOf, andThen}
+use Rattle.answer.specs.Answer.{Answer, refused, given, firstOf, andThen}
+use Rattle.answer.specs.Bytes.{numberOf}
 use Rattle.calendar.specs.declared.Window.{Window}
 use Rattle.label.specs.declared.Label.{Label}
 use Rattle.label.specs.declared.pil.Service.{Service}
@@ -31,8 +32,8 @@ labelOf f = record {
   pcs = getD f 4 0;
   mi = getD f 5 0;
   spare = getD f 6 0;
-  cni = getD f 7 0 * 256 + getD f 8 0;
-  pil = getD f 9 0 * 65536 + getD f 10 0 * 256 + getD f 11 0;
+  cni = numberOf (getD f 7 0 ∷ getD f 8 0 ∷ []);
+  pil = numberOf (getD f 9 0 ∷ getD f 10 0 ∷ getD f 11 0 ∷ []);
   pty = getD f 12 0;
 }
 

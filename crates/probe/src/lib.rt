@@ -1,13 +1,14 @@
 // What tests and benchmarks in another language link: a few calls over numbers and bytes. None asks anything of its caller.
 ghost use mathlib.Core.Path.{_≡_};
-ghost use Prim.Native.Nat.{_*_, _+_};
-ghost use Rattle.hamming.specs.Answer.{number, after};
+ghost use Rattle.answer.specs.Answer.{number, after};
 ghost use Rattle.hamming.specs.Byte.{nibbleOf, codingOf};
 ghost use Rattle.label.specs.Packet.{valueOf};
 ghost use Rattle.label.specs.Pil.{serviceOf};
 ghost use Rattle.calendar.specs.Calendar.{windowIn};
 ghost use lib.ListN.{length};
 ghost use Rattle.probe.specs.Plain.{byteOr, fieldBytes, labelOf, readInto, writeFrom, serviceNumber, windowOr};
+use answer::pair;
+use answer::triple;
 use calendar::Validity;
 use hamming::Coded;
 use hamming::Nibble;
@@ -73,19 +74,6 @@ pub extern "C" fn probe_read(bytes: &[u8], out: &mut [u8]) -> u8
             0
         }
     }
-}
-
-// Numbers from their bytes, the high byte first.
-fn pair(high: u8, low: u8) -> u16
-    ensures { λ r. ⌜ r ≡ high * 256 + low ⌝ }
-{
-    high as u16 * 256 + low as u16
-}
-
-fn triple(high: u8, middle: u8, low: u8) -> u32
-    ensures { λ r. ⌜ r ≡ high * 65536 + middle * 256 + low ⌝ }
-{
-    high as u32 * 65536 + middle as u32 * 256 + low as u32
 }
 
 fn label_of(f: &[u8]) -> Label

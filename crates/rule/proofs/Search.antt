@@ -7,8 +7,9 @@ use lib.ListN.{length, getD, drop, drop-of-length-le}
 use lib.Seq.{drop-cons}
 use native.Mathlib.Nat.{add-zero, add-suc, suc-add}
 use native.Mathlib.Numerals.{add-one}
-use Rattle.hamming.proofs.Cases.{by-test}
-use Rattle.rule.specs.Rule.{nowhere, at, lowestFrom, some}
+use Rattle.answer.proofs.Cases.{by-test}
+use Rattle.answer.specs.Lists.{some}
+use Rattle.rule.specs.Rule.{nowhere, at, lowestFrom}
 use Rattle.rule.specs.Look.{before}
 
 module _ {A : Type 0} (f : A → Bool) (xs : List A) (i : ℕ) where
@@ -21,11 +22,11 @@ module _ {A : Type 0} (f : A → Bool) (xs : List A) (i : ℕ) where
   pub lowest-none : length xs ≤ i → lowestFrom f i (drop i xs) ≡ nowhere
   lowest-none h = rw (drop-of-length-le xs h)
 
-  pub some-more : (d : A) → i < length xs → some f (drop i xs) ≡ (f (getD xs i d) || some f (drop (i + 1) xs))
-  some-more d h = rw (drop-cons xs i d h, add-one i)
+  pub some-next : (d : A) → i < length xs → some f (drop i xs) ≡ (f (getD xs i d) || some f (drop (i + 1) xs))
+  some-next d h = rw (drop-cons xs i d h, add-one i)
 
-  pub some-none : length xs ≤ i → some f (drop i xs) ≡ false
-  some-none h = rw (drop-of-length-le xs h)
+  pub some-past-end : length xs ≤ i → some f (drop i xs) ≡ false
+  some-past-end h = rw (drop-of-length-le xs h)
 
   pub before-hit : (d : A) → i < length xs → f (getD xs i d) ≡ true → i + before f (drop i xs) ≡ i
   before-hit d h e = rw (drop-cons xs i d h, e, add-zero)

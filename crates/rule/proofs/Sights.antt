@@ -6,14 +6,15 @@ use mathlib.Core.List.{List, [], _∷_}
 use lib.Dec.{eqb}
 use lib.ListN.{length, getD, drop}
 use native.Mathlib.Nat.{zero-add}
-use Rattle.hamming.proofs.Cases.{by-test}
-use Rattle.rule.specs.Rule.{noLabel, stands, nowhere, lowestFrom, some, sightBy, openAt, matches, sightOf}
+use Rattle.answer.proofs.Cases.{by-test}
+use Rattle.answer.specs.Lists.{some}
+use Rattle.rule.specs.Rule.{noLabel, stands, nowhere, lowestFrom, sightBy, openAt, matches, sightOf}
 use Rattle.rule.specs.Look.{named, firstWith, lookOf}
 use Rattle.rule.specs.declared.Stamped.{Stamped}
 use Rattle.rule.specs.declared.Booking.{Booking}
 use Rattle.rule.specs.declared.Sight.{Sight}
 use Rattle.rule.specs.declared.Sight.the-variants.{Nothing, Start}
-use Rattle.rule.proofs.Search.{lowest-hit, lowest-miss, lowest-none, lowest-past, some-more, some-none, some-past}
+use Rattle.rule.proofs.Search.{lowest-hit, lowest-miss, lowest-none, lowest-past, some-next, some-past-end, some-past}
 
 pub match-named : (s : ℕ) (b : Booking) (l : Stamped) → matches s b l ≡ (named s b l && openAt s b)
 unfolding matches named
@@ -55,7 +56,7 @@ module _ (s : ℕ) (b : Booking) (ls : List Stamped) where
 
   module _ (i : ℕ) (p : Bool) where
     pub seen-none : length ls ≤ i → seenFrom i p ≡ sightBy nowhere p
-    seen-none h = rw (lowest-none (λ l. named s b l && not (l .prf)) ls i h, some-none (λ l. named s b l && l .prf) ls i h, or-false p)
+    seen-none h = rw (lowest-none (λ l. named s b l && not (l .prf)) ls i h, some-past-end (λ l. named s b l && l .prf) ls i h, or-false p)
 
     module _ {m : Bool} (h : i < length ls) (e : m ≡ named s b (getD ls i noLabel)) where
       pub seen-hit : (m && not (getD ls i noLabel .prf)) ≡ true → seenFrom i p ≡ Start i
@@ -65,7 +66,7 @@ module _ (s : ℕ) (b : Booking) (ls : List Stamped) where
       seen-miss t =
           rw (
             lowest-miss (λ l. named s b l && not (l .prf)) ls i noLabel h (rw (← e) t),
-            some-more (λ l. named s b l && l .prf) ls i noLabel h,
+            some-next (λ l. named s b l && l .prf) ls i noLabel h,
             ← e,
             ← prepares m (getD ls i noLabel .prf) t,
             or-assoc p m,

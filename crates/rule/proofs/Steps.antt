@@ -4,10 +4,10 @@ use mathlib.Core.Path.{_≡_, refl, ap}
 use mathlib.Core.Bool.{true, false, cond, and-false, true≢false}
 use mathlib.Core.List.{List}
 use borrow.Author.Tests.{leb-true, le-ltb}
-use Rattle.hamming.specs.Answer.{Answer, refused, given}
+use Rattle.answer.specs.Answer.{Answer, refused, given}
 use Rattle.calendar.specs.declared.Window.{Window}
 use Rattle.calendar.specs.Calendar.{windowIn}
-use Rattle.hamming.proofs.Cases.{by-test}
+use Rattle.answer.proofs.Cases.{by-test}
 use Rattle.rule.specs.Rule.{openIn, closedIn, openAt, endedAt, sightOf, notLive, movesOr, held, nextCopy, nextTimer}
 use Rattle.rule.specs.declared.Stamped.{Stamped}
 use Rattle.rule.specs.declared.Booking.{Booking}

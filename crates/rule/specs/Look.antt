@@ -4,7 +4,8 @@ use Prim.Native.Nat.{ℕ, suc}
 use mathlib.Core.Bool.{Bool, cond, not, _&&_}
 use mathlib.Core.List.{List, [], _∷_}
 use lib.Dec.{eqb}
-use Rattle.rule.specs.Rule.{stands, lowest, some, sightBy}
+use Rattle.answer.specs.Lists.{some}
+use Rattle.rule.specs.Rule.{stands, lowest, sightBy}
 use Rattle.rule.specs.declared.Stamped.{Stamped}
 use Rattle.rule.specs.declared.Booking.{Booking}
 use Rattle.rule.specs.declared.Sight.{Sight}

@@ -4,7 +4,8 @@ use mathlib.Core.Bool.{Bool, true, false, cond, not, _&&_, _||_}
 use mathlib.Core.List.{List, [], _∷_}
 use lib.Dec.{ltb, leb, eqb}
 use lib.ListN.{getD}
-use Rattle.hamming.specs.Answer.{Answer, refused, given}
+use Rattle.answer.specs.Answer.{Answer, refused, given}
+use Rattle.answer.specs.Lists.{some}
 use Rattle.label.specs.declared.Label.{Label}
 use Rattle.label.specs.declared.pil.Service.{Service}
 use Rattle.label.specs.declared.pil.Service.the-variants.{Programme, TimerControl, InhibitTerminate, Interruption, Continuation, NoSpecificValue}
@@ -89,10 +90,6 @@ lowestFrom f i (x ∷ xs) = cond (f x) (at i) (lowestFrom f (suc i) xs)
 
 abbrev pub lowest : {A : Type 0} → (A → Bool) → List A → Found
 lowest f xs = lowestFrom f 0 xs
-
-abbrev pub some : {A : Type 0} → (A → Bool) → List A → Bool
-some f [] = false
-some f (x ∷ xs) = f x || some f xs
 
 abbrev pub sightBy : Found → Bool → Sight
 sightBy (at q) prepared = Start q

@@ -13,7 +13,8 @@ use Rattle.desk.specs.declared.Desk.{Desk}
 use Rattle.sheet.specs.declared.Stage.{Stage}
 use Rattle.sheet.specs.declared.Stage.the-variants.{TimerCount, Timers, PacketCount, Packets, Played, LeftOver}
 use Rattle.sheet.specs.declared.Sheet.{Sheet}
-use Rattle.sheet.specs.Sheet.{numberOf, brokenLine, Next, short, item, next, ended, packetLeft, onPacket, packetsFrom, onPacketCount, timerLeft, onTimer, timersFrom, onTimerCount, sheetOf}
+use Rattle.answer.specs.Bytes.{numberOf}
+use Rattle.sheet.specs.Sheet.{brokenLine, Next, short, item, next, ended, packetLeft, onPacket, packetsFrom, onPacketCount, timerLeft, onTimer, timersFrom, onTimerCount, sheetOf}
 use Rattle.sheet.specs.Pieces.{need, timersLeft, packetsLeft, stageAfter, deskAfter, told, holding, isWhole, itemOf, afterItem, toldBy, afterByte, byteTold, afterPiece, pieceTold, closing, endTold, blank}
 use Rattle.sheet.specs.Laws.{joined, printed}
 

@@ -1,7 +1,7 @@
 -- The laws of a sheet.
 use mathlib.Core.Path.{_≡_}
 use native.Mathlib.Omega.{arith}
-use Rattle.hamming.proofs.Answers.{equation, paired}
+use Rattle.answer.proofs.Answers.{equation, paired}
 use Rattle.sheet.specs.Laws.{Laws}
 use Rattle.sheet.specs.Pieces.{blank, fedBy, outAfter, closedBy, outClosed}
 use Rattle.sheet.proofs.Machine.{pieces}

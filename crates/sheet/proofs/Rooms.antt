@@ -7,7 +7,7 @@ use borrow.Author.Tests.{le-leb, lt-leb, leb-true, leb-false}
 use native.Mathlib.Omega.{arith}
 use lib.Dec.{ltb, leb}
 use lib.ListN.{length, length-append}
-use Rattle.hamming.specs.Answer.{Answer, refused, given, number}
+use Rattle.answer.specs.Answer.{Answer, refused, given, number}
 use Rattle.desk.specs.declared.Desk.{Desk}
 use Rattle.desk.specs.Calls.{addOf}
 use Rattle.desk.specs.Moments.{liveCount}

@@ -6,7 +6,7 @@ use mathlib.Core.List.{List, [], _∷_}
 use native.Mathlib.Omega.{arith}
 use lib.Dec.{ltb}
 use lib.ListN.{length, take, drop, getD, length-map, length-set}
-use Rattle.hamming.specs.Answer.{Answer, refused, given, Row, firstOf, andThen, number, after}
+use Rattle.answer.specs.Answer.{Answer, refused, given, Row, firstOf, andThen, number, after}
 use Rattle.label.specs.declared.Label.{Label}
 use Rattle.label.specs.Packet.{readerRows, readingOf, labelIn}
 use Rattle.label.specs.Pil.{twentyBits}
@@ -21,7 +21,8 @@ use Rattle.sixteen.specs.Sixteen.{isNowhere, slotOf, count}
 use Rattle.desk.specs.Calls.{Told, tunerRows, labelRows, hearingAt, packetOf, roomIn, withLabel, withTimer, addRows, addOf}
 use Rattle.desk.specs.Moments.{moment, clockedAt, nextSecond, walk, passTo, liveCount}
 use Rattle.desk.specs.Numbers.{leftBy}
-use Rattle.sheet.specs.Sheet.{numberOf, bookingIn, timerLeft, packetLeft}
+use Rattle.answer.specs.Bytes.{numberOf}
+use Rattle.sheet.specs.Sheet.{bookingIn, timerLeft, packetLeft}
 
 -- ── the first row that applies ─────────────────────────────────────────────────────────────────────────────────────
 abbrev Each : (Row → Type 0) → List Row → Type 0

@@ -3,7 +3,7 @@ use Prim.Native.Nat.{ℕ, _+_, _≤_, _<_}
 use mathlib.Core.Path.{_≡_}
 use mathlib.Core.List.{List, [], _∷_, _++_}
 use lib.ListN.{length}
-use Rattle.hamming.specs.Answer.{Unique, number, given}
+use Rattle.answer.specs.Answer.{Unique, number, given}
 use Rattle.rule.specs.declared.Booking.{Booking}
 use Rattle.desk.specs.declared.Desk.{Desk}
 use Rattle.desk.specs.Calls.{Told, packetOf, addOf}

@@ -12,7 +12,8 @@ use Rattle.sheet.specs.declared.Stage.the-variants.{TimerCount, Timers, 
 use Rattle.sheet.specs.declared.Sheet.{Sheet}
 use Rattle.sheet.specs.declared.Fed.{Fed}
 use Rattle.sheet.specs.declared.Closed.{Closed}
-use Rattle.sheet.specs.Sheet.{numberOf, timerTold, timerLeft, packetTold, packetLeft, endLine, brokenLine}
+use Rattle.answer.specs.Bytes.{numberOf}
+use Rattle.sheet.specs.Sheet.{timerTold, timerLeft, packetTold, packetLeft, endLine, brokenLine}
 
 -- how many bytes the next item has
 abbrev pub need : Stage → ℕ

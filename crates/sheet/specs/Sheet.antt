@@ -1,25 +1,18 @@
 -- What a sheet prints (document 01, 'The sheet program'): one definition over the bytes of the input.
-use Prim.Native.Nat.{ℕ, zero, suc, _+_, _*_, _/_, _%_}
+use Prim.Native.Nat.{ℕ, zero, suc, _+_, _/_, _%_}
 use mathlib.Core.Bool.{cond}
 use mathlib.Core.List.{List, [], _∷_, _++_}
 use lib.Dec.{ltb}
 use lib.ListN.{length, take, drop, getD}
-use Rattle.hamming.specs.Answer.{Answer, refused, given, number, after}
+use Rattle.answer.specs.Answer.{Answer, refused, given, number, after}
+use Rattle.answer.specs.Bytes.{numberOf}
 use Rattle.rule.specs.declared.Booking.{Booking}
 use Rattle.desk.specs.declared.Desk.{Desk}
 use Rattle.desk.specs.Moments.{fresh, liveCount}
 use Rattle.desk.specs.Calls.{packetOf, addOf}
 use Rattle.desk.specs.Numbers.{saidBy, leftBy}
 
--- ── numbers and lines ──────────────────────────────────────────────────────────────────────────────────────────────
--- 'numbers have the high byte first'
-abbrev pub numberFrom : ℕ → List ℕ → ℕ
-numberFrom n [] = n
-numberFrom n (b ∷ bs) = numberFrom (n * 256 + b) bs
-
-abbrev pub numberOf : List ℕ → ℕ
-numberOf bs = numberFrom 0 bs
-
+-- ── lines ──────────────────────────────────────────────────────────────────────────────────────────────────────────
 -- 'slots, answers and counts are decimal'; two digits hold each of them (laws `small-…`)
 abbrev pub digit : ℕ → ℕ
 digit d = 48 + d % 10

@@ -1,5 +1,5 @@
 // A whole item: its numbers, what it does to the desk, and what it prints.
-ghost use Prim.Native.Nat.{_+_, _-_, _*_, _≤_};
+ghost use Prim.Native.Nat.{_+_, _-_, _≤_};
 ghost use mathlib.Core.Path.{_≡_};
 ghost use lib.ListN.{length, take};
 ghost use lib.Seq.{sets};
@@ -8,26 +8,10 @@ ghost use Rattle.sheet.specs.Pieces.{need, timersLeft, packetsLeft, desk
 use crate::Stage;
 use crate::lines::packet_line;
 use crate::lines::timer_line;
+use answer::four;
+use answer::pair;
+use answer::triple;
 use desk::Desk;
-
-// 'Numbers have the high byte first.'
-fn pair(a: u8, b: u8) -> u16
-    ensures { λ r. ⌜ r ≡ a * 256 + b ⌝ }
-{
-    a as u16 * 256 + b as u16
-}
-
-fn triple(a: u8, b: u8, c: u8) -> u32
-    ensures { λ r. ⌜ r ≡ (a * 256 + b) * 256 + c ⌝ }
-{
-    pair(a, b) as u32 * 256 + c as u32
-}
-
-fn four(a: u8, b: u8, c: u8, d: u8) -> u32
-    ensures { λ r. ⌜ r ≡ ((a * 256 + b) * 256 + c) * 256 + d ⌝ }
-{
-    triple(a, b, c) * 256 + d as u32
-}
 
 // The desk that a timer or a packet leaves, and the place after what it printed.
 pub(crate) struct Left {

@@ -5,7 +5,8 @@ use mathlib.Core.Bool.{Bool, true, false, cond, not, _||_}
 use mathlib.Core.List.{List, [], _∷_}
 use native.Mathlib.Omega.{arith}
 use lib.ListN.{length, getD, drop}
-use Rattle.rule.specs.Rule.{nowhere, at, lowestFrom, lowest, some}
+use Rattle.answer.specs.Lists.{some}
+use Rattle.rule.specs.Rule.{nowhere, at, lowestFrom, lowest}
 use Rattle.rule.proofs.Search.{lowest-hit, lowest-miss, lowest-none}
 use Rattle.sixteen.specs.Sixteen.{isNowhere}
 
@@ -40,5 +41,5 @@ module _ {A : Type 0} (f : A → Bool) where
       pub none : lowest f xs ≡ nowhere
       none = n .2 ∙ lowest-none f xs i (omega arith)
 
-      pub some-none : false ≡ some f xs
-      some-none = sym (some-lowest 0 xs ∙ ap (λ r. not (isNowhere r)) none)
+      pub some-missed : false ≡ some f xs
+      some-missed = sym (some-lowest 0 xs ∙ ap (λ r. not (isNowhere r)) none)

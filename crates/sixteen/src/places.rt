@@ -1,7 +1,8 @@
 // The sixteen places.
 ghost use mathlib.Core.Path.{_≡_};
 ghost use lib.ListN.{set};
-ghost use Rattle.rule.specs.Rule.{stands, some};
+ghost use Rattle.answer.specs.Lists.{some};
+ghost use Rattle.rule.specs.Rule.{stands};
 use rule::Stamped;
 use rule::standing::stands;
 

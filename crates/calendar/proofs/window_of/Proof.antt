@@ -5,7 +5,7 @@ use mathlib.Core.Path.{_≡_, sym}
 use native.Mathlib.Omega.{arith}
 use lib.Dec.{ltb}
 use borrow.Author.Needs.{needs}
-use Rattle.hamming.specs.Answer.{Answer, given}
+use Rattle.answer.specs.Answer.{Answer, given}
 use Rattle.label.specs.Pil.{partsOf}
 use Rattle.label.specs.declared.pil.Announced.{Announced}
 use Rattle.calendar.specs.Calendar.{realIn, dayNumber, opening, closing, opensAt, closesAt, windowIn}

@@ -1,6 +1,6 @@
 -- Each exit is a row of the table, or what the copy says.
 use mathlib.Core.Path.{_≡_, ap}
-use Rattle.hamming.specs.Answer.{given}
+use Rattle.answer.specs.Answer.{given}
 use Rattle.rule.specs.Rule.{endedAt}
 use Rattle.desk.specs.Calls.{askOf}
 use borrow.Author.Needs.{needs}

@@ -1,7 +1,7 @@
 -- Each exit is a row of the table, or what the seconds leave.
 use mathlib.Core.Path.{refl, ap, _∙_}
 use borrow.Author.Tests.{lt-ltb, le-ltb}
-use Rattle.hamming.specs.Answer.{given}
+use Rattle.answer.specs.Answer.{given}
 use Rattle.desk.specs.Moments.{moment}
 use Rattle.desk.specs.Calls.{waitOf}
 use borrow.Author.Needs.{needs}

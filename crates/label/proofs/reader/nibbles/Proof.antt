@@ -7,11 +7,12 @@ use native.Mathlib.Omega.{arith}
 use lib.ListN.{getD}
 use Rattle.label.specs.Layout.{bitAt}
 use Rattle.label.specs.Number.{numberBy}
-use Rattle.label.specs.Packet.{valueAt, damagedAt, any}
+use Rattle.answer.specs.Lists.{some}
+use Rattle.label.specs.Packet.{valueAt, damagedAt}
 use Rattle.label.proofs.Nibbles.{over, turned}
 use Rattle.label.proofs.Places.{bit-in}
 use Rattle.label.proofs.Sent.{number-run, run-room}
-use Rattle.label.proofs.Puts.{run, any-run}
+use Rattle.label.proofs.Puts.{run, some-run}
 use Rattle.label.proofs.reader.nibbles.Statement.{statement}
 use Rattle.label.proofs.reader.nibbles.Tie as tie
 
@@ -19,7 +20,7 @@ abbrev Inv-loop : tie.InvT-loop
 Inv-loop bytes number₀ damaged₀ i₀ number damaged i =
     (9 ≤ i)
     × (i ≤ 22)
-    × (damaged ≡ any (damagedAt bytes) (run 9 (i - 9)))
+    × (damaged ≡ some (damagedAt bytes) (run 9 (i - 9)))
     × (number ≡ numberBy (bitAt (valueAt bytes)) (run 9 (i - 9)))
 
 abbrev μ-loop : tie.MeasureT-loop
@@ -67,7 +68,7 @@ loop-again c =
     let value = c .before .value .ensures in (
       search needs,
       search needs,
-      any-run (damagedAt p) 9 (s .i) (s .inv .0) (s .inv .2) (over (getD p (s .i) 0) value),
+      some-run (damagedAt p) 9 (s .i) (s .inv .0) (s .inv .2) (over (getD p (s .i) 0) value),
       number-run (bitAt (valueAt p)) (bit-in (valueAt p)) 9 (s .i) (s .inv .0) (s .inv .3) (c .turned .ensures .0 ∙ ap turned value),
     )
 
@@ -76,7 +77,7 @@ returns c =
     let p = c .before .before .before .args .bytes .now in
     let s = c .before .loop in
     let e : s .i ≡ 22 = omega arith in
-    (s .inv .2 ∙ ap (λ (n : ℕ). any (damagedAt p) (run 9 (n - 9))) e, s .inv .3 ∙ ap (λ (n : ℕ). numberBy (bitAt (valueAt p)) (run 9 (n - 9))) e)
+    (s .inv .2 ∙ ap (λ (n : ℕ). some (damagedAt p) (run 9 (n - 9))) e, s .inv .3 ∙ ap (λ (n : ℕ). numberBy (bitAt (valueAt p)) (run 9 (n - 9))) e)
 
 pub nibbles-spec : {M : Type 1} → statement M
 nibbles-spec =

@@ -7,7 +7,7 @@ use mathlib.Core.List.{List}
 use borrow.Author.Tests.{lt-ltb, le-ltb}
 use lib.Dec.{ltb, eqb}
 use lib.ListN.{getD}
-use Rattle.hamming.specs.Answer.{refused, given}
+use Rattle.answer.specs.Answer.{refused, given}
 use Rattle.label.specs.Packet.{readerRows, readingOf, labelIn, format2, valueAt}
 use Rattle.label.proofs.Nibbles.{over}
 use Rattle.label.proofs.Rows.{Passed, testAt, numberAt, refused-at, given-past, that-length, other-length}

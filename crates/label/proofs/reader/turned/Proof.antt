@@ -6,7 +6,7 @@ use native.Mathlib.Omega.{arith}
 use lib.Dec.{eqb}
 use lib.ListN.{getD}
 use borrow.Author.Tests.{eqb-true, eqb-false}
-use Rattle.hamming.proofs.Cases.{by-test}
+use Rattle.answer.proofs.Cases.{by-test}
 use Rattle.hamming.specs.Byte.{D}
 use Rattle.label.proofs.Nibbles.{turned, turning}
 use Rattle.label.proofs.reader.turned.Statement.{statement}

@@ -6,7 +6,7 @@ use mathlib.Core.Bool.{true}
 use mathlib.Core.List.{List}
 use lib.ListN.{set, length-set}
 use Rattle.hamming.specs.Byte.{good}
-use Rattle.hamming.specs.Answer.{number, after}
+use Rattle.answer.specs.Answer.{number, after}
 use Rattle.label.specs.declared.Label.{Label}
 use Rattle.label.specs.Packet.{writerRows, writingOf, put, byteFor, labelBytes, hammingBytes}
 use Rattle.label.proofs.Sent.{designation-sent}

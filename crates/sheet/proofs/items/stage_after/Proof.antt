@@ -1,6 +1,6 @@
 -- `stage_after`: a count is the number of its bytes, and each item leaves one less.
 use borrow.Author.Needs.{needs}
-use Rattle.sheet.proofs.Numbers.{one, two}
+use Rattle.sheet.proofs.Numbers.{one, number}
 use Rattle.sheet.proofs.items.stage_after.Statement.{statement}
 use Rattle.sheet.proofs.items.stage_after.Tie as tie
 
@@ -68,7 +68,7 @@ returns-3 : tie.Need-returns-3
 returns-3 c =
     let n = c .before in
     let k = n .before in
-    rw (k .enum-told2 .given .1, two (k .before .before .args .t2) (search needs), ← n .pair .ensures) (c .packets-left .ensures)
+    rw (k .enum-told2 .given .1, number 2 (k .before .before .args .t2) (search needs), ← n .pair .ensures) (c .packets-left .ensures)
 
 returns-4 : tie.Need-returns-4
 returns-4 c = let n = c .before in rw (n .before .before .stage2 .given .1, ← n .one-less2 .ensures) (c .packets-left2 .ensures)

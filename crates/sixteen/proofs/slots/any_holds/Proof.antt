@@ -4,7 +4,7 @@ use mathlib.Core.Bool.{_&&_}
 use mathlib.Core.Path.{refl}
 use borrow.Author.Needs.{needs}
 use Rattle.sixteen.specs.Sixteen.{active, sameBooking}
-use Rattle.sixteen.proofs.First.{NotBefore, some-hit, miss, some-none}
+use Rattle.sixteen.proofs.First.{NotBefore, some-hit, miss, some-missed}
 use Rattle.sixteen.proofs.slots.any_holds.Statement.{statement}
 use Rattle.sixteen.proofs.slots.any_holds.Tie as tie
 
@@ -43,7 +43,7 @@ loop-again c =
     miss _ _ _ (b .loop .inv) (search needs) (c .before .holds .ensures) (c .if1 .left)
 
 returns-2 : tie.Need-returns-2 Inv-loop μ-loop
-returns-2 c = some-none _ _ (c .before .loop .inv) (search needs)
+returns-2 c = some-missed _ _ (c .before .loop .inv) (search needs)
 
 pub any-holds-spec : {M : Type 1} → statement M
 any-holds-spec =

@@ -3,7 +3,7 @@ use Prim.Native.Nat.{_-_}
 use mathlib.Core.Path.{refl}
 use borrow.Author.Needs.{needs}
 use Rattle.rule.specs.Rule.{liveTimer}
-use Rattle.sixteen.proofs.First.{NotBefore, some-hit, miss, some-none}
+use Rattle.sixteen.proofs.First.{NotBefore, some-hit, miss, some-missed}
 use Rattle.sixteen.proofs.slots.any_live.Statement.{statement}
 use Rattle.sixteen.proofs.slots.any_live.Tie as tie
 
@@ -42,7 +42,7 @@ loop-again c =
     miss _ _ _ (b .loop .inv) (search needs) (c .before .is-live .ensures) (c .if1 .left)
 
 returns-2 : tie.Need-returns-2 Inv-loop μ-loop
-returns-2 c = some-none _ _ (c .before .loop .inv) (search needs)
+returns-2 c = some-missed _ _ (c .before .loop .inv) (search needs)
 
 pub any-live-spec : {M : Type 1} → statement M
 any-live-spec =

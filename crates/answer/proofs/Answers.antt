@@ -1,6 +1,6 @@
 -- One outcome for a promise that is an equation.
 use mathlib.Core.Path.{_≡_, sym, ap, _∙_}
-use Rattle.hamming.specs.Answer.{Unique}
+use Rattle.answer.specs.Answer.{Unique}
 
 pub equation : {A : Type 0} (d : A) → Unique (λ r. r ≡ d)
 equation d r s p q = p ∙ sym q

@@ -1,0 +1,5 @@
+pub mod Cases
+pub mod All
+pub mod Every
+pub mod Answers
+pub mod Proved

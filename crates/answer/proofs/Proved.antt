@@ -1,0 +1,12 @@
+-- The laws of the words that every layer uses.
+use mathlib.Core.List.{[], _∷_}
+use Rattle.answer.specs.Bytes.{numberOf}
+use Rattle.answer.specs.Laws.{Laws}
+use Rattle.answer.proofs.Answers.{equation}
+
+pub laws : Laws
+laws = record {
+  pair-unique = λ a b. equation (numberOf (a ∷ b ∷ []));
+  triple-unique = λ a b c. equation (numberOf (a ∷ b ∷ c ∷ []));
+  four-unique = λ a b c d. equation (numberOf (a ∷ b ∷ c ∷ d ∷ []));
+}

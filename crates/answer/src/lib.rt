@@ -1,0 +1,32 @@
+// The words that every layer uses: what a call answers, in specs/, and numbers out of bytes.
+ghost use mathlib.Core.Bool.{true};
+ghost use mathlib.Core.List.{[], _∷_};
+ghost use mathlib.Core.Path.{_≡_};
+ghost use Rattle.answer.specs.Bytes.{numberOf};
+ghost use Rattle.answer.specs.Laws.{Laws};
+
+// 'Numbers have the high byte first.'
+pub fn pair(a: u8, b: u8) -> u16
+    ensures { λ r. ⌜ r ≡ numberOf (a ∷ b ∷ []) ⌝ }
+{
+    a as u16 * 256 + b as u16
+}
+
+pub fn triple(a: u8, b: u8, c: u8) -> u32
+    ensures { λ r. ⌜ r ≡ numberOf (a ∷ b ∷ c ∷ []) ⌝ }
+{
+    pair(a, b) as u32 * 256 + c as u32
+}
+
+pub fn four(a: u8, b: u8, c: u8, d: u8) -> u32
+    ensures { λ r. ⌜ r ≡ numberOf (a ∷ b ∷ c ∷ d ∷ []) ⌝ }
+{
+    triple(a, b, c) * 256 + d as u32
+}
+
+// The laws of these words, as a promise of the crate.
+pub fn lawful() -> bool
+    ensures { λ r. ⌜ (r ≡ true) × Laws ⌝ }
+{
+    true
+}
