@@ -29,7 +29,7 @@ pub marked : Marked
 marked = record {
   listed = listed examples right;
   eight = λ t l h. (standing t _ l h (omega arith), lapsed t _ l h (omega arith));
-  nine = λ t slot p b d h none opened. (λ n k. ap liveTimer (runs t slot p b d h none opened n (omega arith)), ends t slot p b d h none opened _ refl);
+  nine = λ t slot p b d h none opened. (λ n k. ap liveTimer (runs t slot p b d h none opened n (omega arith)), ends t slot p b d h none opened);
   nine-mi-1 = λ t slot p b d h none. stops t slot p b _ d h refl none;
   ten =
       λ t l c h code. (

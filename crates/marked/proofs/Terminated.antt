@@ -176,10 +176,10 @@ module _ (t slot p : ℕ) (b : Booking) (d : Desk) (h : Terminated t slot p b fa
       let now = clock-now t slot p b false d h in
       walk-runs t slot p b n d runs-first (λ s i j. alone s (omega arith) (omega arith)) (omega arith)
 
-  pub ends : (n : ℕ) → n ≡ 30 → liveIn n slot d ≡ false
+  pub ends : liveIn 30 slot d ≡ false
   unfolding walk nextSecond
-  ends n k =
+  ends =
       let e = walk 29 d in
       let now : suc (e .clock) ≡ t + 30 = omega (arith, walk-clock 29 d, clock-now t slot p b false d h) in
       let a : Alone t slot p b (suc (e .clock)) (e .places) = rw (now, walk-places 29 d) (alone (t + 30) (omega arith) (omega arith)) in
-      rw (k, walk-add 29 1 d) (moment-ends t slot p b (clockedAt (suc (e .clock)) e) (runs 29 (omega arith)) a (omega arith))
+      rw (walk-add 29 1 d) (moment-ends t slot p b (clockedAt (suc (e .clock)) e) (runs 29 (omega arith)) a (omega arith))

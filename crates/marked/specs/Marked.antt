@@ -245,7 +245,7 @@ pub record OnlyPrf1 (s : ℕ) (ls : List Stamped) (b : Booking) : Type 0 where
 
 -- the one statement
 pub record Marked : Type 0 where
-  -- the list: what the definitions give is what the paper says
+  -- 1 to 12 as a list: what the definitions give is what the paper says, in 8 to 11 at one t
   pub listed : map (λ e. e .gives) examples ≡ map (λ e. e .paper) examples
   -- 8. 'a label stamped t stands at t+5, not at t+6'
   pub eight : (t : ℕ) (l : Stamped) → StampedAt t l → (stands (t + 5) l ≡ true) × (stands (t + 6) l ≡ false)
@@ -256,7 +256,7 @@ pub record Marked : Type 0 where
       ((n : ℕ) → n ≤ 29 → liveIn n slot d ≡ true) × (liveIn 30 slot d ≡ false)
   -- 'with MI 1 not live at t'
   pub nine-mi-1 : (t slot p : ℕ) (b : Booking) (d : Desk) → Terminated t slot p b true d → NothingElse t p b d → liveIn 0 slot d ≡ false
-  -- 10. 'continuation at t+5 keeps a label to t+10; at t+6 it does nothing'
+  -- 10. 'continuation at t+5 keeps a label to t+10; at t+6 it does nothing': the place holds the same label anew stamped, or what it held
   pub ten : (t : ℕ) (l : Stamped) (c : Label) → StampedAt t l → serviceOf (c .pil) ≡ Continuation →
       (heardAt (t + 5) c l ≡ restamped (t + 5) l)
       × ((s : ℕ) → s ≤ t + 10 → stands s (heardAt (t + 5) c l) ≡ true)
