@@ -1,1 +1,6 @@
+pub mod Rules
 pub mod Twelve
+pub mod Standing
+pub mod Prepared
+pub mod Terminated
+pub mod Proved

@@ -2,22 +2,18 @@
 use Prim.Native.Nat.{ℕ}
 use mathlib.Core.Path.{_≡_, refl, sym, ap, ap₂, _∙_}
 use mathlib.Core.List.{List, [], _∷_, _++_}
-use Rattle.hamming.specs.Byte.{D, good, distance, nearTo, nibbleOf}
-use Rattle.calendar.specs.Calendar.{leap, daysIn, dayExists, realIn, sumBelow, daysBeforeMonth, daysOfYear, daysBeforeYear, dayNumber, opening, closing, opensAt, closesAt, windowIn}
-use Rattle.label.specs.Packet.{readingOf, byteFor, writingOf}
-use Rattle.label.specs.Pil.{serviceOf}
-use Rattle.rule.specs.Rule.{stands, heardAt, openAt, endedAt, matches, sightOf, recordingAt, fromRecording, fromRunningOn, nextCopy, nextTimer}
-use Rattle.desk.specs.Moments.{fresh, clockedAt, moment, nextSecond, walk, passTo, quiet, walkedIn, walkedTo, liveCount}
-use Rattle.desk.specs.Calls.{withLabel, withTimer, hearingAt, packetOf, waitOf, roomIn, addOf, askOf}
-use Rattle.sheet.specs.Sheet.{decimal, packetLine, timerTold, timerLeft, packetTold, packetLeft, packetsFrom, timersFrom, sheetOf}
-use Rattle.history.specs.Run.{Call, packet, wait, add, ask, live, Done, outcome, answersOf, deskAfter}
-use Rattle.desk.proofs.Fast.{fastTo, fast-pass}
 use Rattle.answer.specs.Answer.{Answer, given}
 use Rattle.label.specs.Packet.{labelIn}
 use Rattle.rule.specs.declared.Booking.{Booking}
 use Rattle.rule.specs.declared.Copy.the-variants.{Waiting}
 use Rattle.desk.specs.declared.Desk.{Desk}
+use Rattle.desk.specs.Moments.{fresh, clockedAt, moment, walk, passTo, liveCount}
+use Rattle.desk.specs.Calls.{withLabel, withTimer, packetOf}
+use Rattle.desk.proofs.Fast.{fastTo, fast-pass}
+use Rattle.sheet.specs.Sheet.{packetLine, packetTold, packetLeft, packetsFrom, sheetOf}
+use Rattle.history.specs.Run.{Call, packet, wait, add, ask, live, Done, onlyDesk, outcome, answersOf}
 use Rattle.marked.specs.Marked.{packetA, takenOver, plainly, wholeCase}
+use Rattle.marked.proofs.Rules.{rules}
 
 -- an accepted call's answer, and then the others'
 after-given : (c : Call) (cs : List Call) (d : Desk) (o : Done) → outcome c d ≡ given o → answersOf (c ∷ cs) d ≡ given (o .tells) ∷ answersOf cs (o .desk)
@@ -37,23 +33,28 @@ booked = moment (withTimer 0 (record { booking = booking; copy = Waiting }) fres
 abbrev recording : Desk
 recording = moment (withLabel 0 (labelIn packetA) (moment (clockedAt first booked)))
 
-added : outcome (add booking) fresh ≡ given (record { tells = 0 ∷ []; desk = booked })
-unfolding D good distance nearTo nibbleOf readingOf leap daysIn dayExists realIn sumBelow daysBeforeMonth daysOfYear daysBeforeYear dayNumber opening closing opensAt closesAt windowIn byteFor writingOf serviceOf stands heardAt openAt endedAt matches sightOf recordingAt fromRecording fromRunningOn nextCopy nextTimer moment nextSecond quiet walkedIn walkedTo liveCount hearingAt packetOf waitOf roomIn addOf askOf outcome answersOf deskAfter
-added = refl
-
 at-first : fastTo 1 first booked ≡ moment (clockedAt first booked)
-unfolding fastTo D good distance nearTo nibbleOf readingOf leap daysIn dayExists realIn sumBelow daysBeforeMonth daysOfYear daysBeforeYear dayNumber opening closing opensAt closesAt windowIn byteFor writingOf serviceOf stands heardAt openAt endedAt matches sightOf recordingAt fromRecording fromRunningOn nextCopy nextTimer moment nextSecond quiet walkedIn walkedTo liveCount hearingAt packetOf waitOf roomIn addOf askOf outcome answersOf deskAfter
+unfolding fastTo rules
 at-first = refl
 
+first-heard : packetOf 0 first packetA booked ≡ given recording
+unfolding rules
+first-heard = ap (λ (d : Desk). given (moment (withLabel 0 (labelIn packetA) d))) (sym (fast-pass 1 first booked) ∙ at-first)
+
+-- ── as calls ───────────────────────────────────────────────────────────────────────────────────────────────────────
+added : outcome (add booking) fresh ≡ given (record { tells = 0 ∷ []; desk = booked })
+unfolding rules
+added = refl
+
 heard : outcome (packet 0 first packetA) booked ≡ given (record { tells = []; desk = recording })
-unfolding D good distance nearTo nibbleOf readingOf leap daysIn dayExists realIn sumBelow daysBeforeMonth daysOfYear daysBeforeYear dayNumber opening closing opensAt closesAt windowIn byteFor writingOf serviceOf stands heardAt openAt endedAt matches sightOf recordingAt fromRecording fromRunningOn nextCopy nextTimer moment nextSecond quiet walkedIn walkedTo liveCount hearingAt packetOf waitOf roomIn addOf askOf outcome answersOf deskAfter
-heard = ap (λ (d : Desk). given (record { tells = []; desk = moment (withLabel 0 (labelIn packetA) d) })) (sym (fast-pass 1 first booked) ∙ at-first)
+unfolding outcome
+heard = ap onlyDesk first-heard
 
 rest : List Call
 rest = live ∷ packet 4 0x04C5DF3D packetA ∷ live ∷ wait 0x04C5DF42 ∷ ask 0 ∷ packet 1 0x04C5DF42 packetA ∷ ask 0 ∷ live ∷ []
 
 said-then : plainly (answersOf rest recording) ≡ 1 ∷ 8 ∷ 1 ∷ 10 ∷ 3 ∷ 0 ∷ 0 ∷ 2 ∷ 4 ∷ 1 ∷ []
-unfolding rest D good distance nearTo nibbleOf readingOf leap daysIn dayExists realIn sumBelow daysBeforeMonth daysOfYear daysBeforeYear dayNumber opening closing opensAt closesAt windowIn byteFor writingOf serviceOf stands heardAt openAt endedAt matches sightOf recordingAt fromRecording fromRunningOn nextCopy nextTimer moment nextSecond walk passTo quiet walkedIn walkedTo liveCount hearingAt packetOf waitOf roomIn addOf askOf outcome answersOf deskAfter
+unfolding rest rules walk passTo
 said-then = refl
 
 pub twelve : plainly (answersOf takenOver fresh) ≡ 0 ∷ 0 ∷ 1 ∷ 8 ∷ 1 ∷ 10 ∷ 3 ∷ 0 ∷ 0 ∷ 2 ∷ 4 ∷ 1 ∷ []
@@ -71,23 +72,19 @@ abbrev packets : List ℕ
 packets = 0x04 ∷ 0xC5 ∷ 0xDF ∷ 0x38 ∷ 0 ∷ packetA ++ others
 
 timer-told : sheetOf wholeCase ≡ 84 ∷ 32 ∷ 48 ∷ 10 ∷ packetsFrom 3 booked packets
-unfolding sheetOf timersFrom timerTold timerLeft decimal D good distance nearTo nibbleOf readingOf leap daysIn dayExists realIn sumBelow daysBeforeMonth daysOfYear daysBeforeYear dayNumber opening closing opensAt closesAt windowIn byteFor writingOf serviceOf stands heardAt openAt endedAt matches sightOf recordingAt fromRecording fromRunningOn nextCopy nextTimer moment nextSecond quiet walkedIn walkedTo liveCount hearingAt packetOf waitOf roomIn addOf askOf outcome answersOf deskAfter
+unfolding rules
 timer-told = refl
-
-first-heard : packetOf 0 first packetA booked ≡ given recording
-unfolding D good distance nearTo nibbleOf readingOf leap daysIn dayExists realIn sumBelow daysBeforeMonth daysOfYear daysBeforeYear dayNumber opening closing opensAt closesAt windowIn byteFor writingOf serviceOf stands heardAt openAt endedAt matches sightOf recordingAt fromRecording fromRunningOn nextCopy nextTimer moment nextSecond quiet walkedIn walkedTo liveCount hearingAt packetOf waitOf roomIn addOf askOf outcome answersOf deskAfter
-first-heard = ap (λ (d : Desk). given (moment (withLabel 0 (labelIn packetA) d))) (sym (fast-pass 1 first booked) ∙ at-first)
 
 first-told : packetsFrom 3 booked packets ≡ packetLine 0 (liveCount recording) ++ packetsFrom 2 recording others
 unfolding packetsFrom packetTold packetLeft
 first-told = rw first-heard
 
 live-then : packetLine 0 (liveCount recording) ≡ 80 ∷ 32 ∷ 48 ∷ 32 ∷ 49 ∷ 10 ∷ []
-unfolding decimal D good distance nearTo nibbleOf readingOf leap daysIn dayExists realIn sumBelow daysBeforeMonth daysOfYear daysBeforeYear dayNumber opening closing opensAt closesAt windowIn byteFor writingOf serviceOf stands heardAt openAt endedAt matches sightOf recordingAt fromRecording fromRunningOn nextCopy nextTimer moment nextSecond walk passTo quiet walkedIn walkedTo liveCount hearingAt packetOf waitOf roomIn addOf askOf outcome answersOf deskAfter
+unfolding rules
 live-then = refl
 
 others-told : packetsFrom 2 recording others ≡ 80 ∷ 32 ∷ 56 ∷ 32 ∷ 49 ∷ 10 ∷ 80 ∷ 32 ∷ 48 ∷ 32 ∷ 49 ∷ 10 ∷ 90 ∷ 32 ∷ 49 ∷ 10 ∷ []
-unfolding packetsFrom packetTold packetLeft decimal D good distance nearTo nibbleOf readingOf leap daysIn dayExists realIn sumBelow daysBeforeMonth daysOfYear daysBeforeYear dayNumber opening closing opensAt closesAt windowIn byteFor writingOf serviceOf stands heardAt openAt endedAt matches sightOf recordingAt fromRecording fromRunningOn nextCopy nextTimer moment nextSecond walk passTo quiet walkedIn walkedTo liveCount hearingAt packetOf waitOf roomIn addOf askOf outcome answersOf deskAfter
+unfolding rules walk passTo
 others-told = refl
 
 pub twelve-sheet : sheetOf wholeCase ≡

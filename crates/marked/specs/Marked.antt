@@ -1,5 +1,5 @@
--- The marked examples of document 01: what the definitions give, beside what the paper says. Proved in proofs/lawful/Proof.antt.
-use Prim.Native.Nat.{ℕ, _+_, _-_, _*_}
+-- The marked examples of document 01: what the definitions give, beside what the paper says. Proved in proofs/Proved.antt.
+use Prim.Native.Nat.{ℕ, _+_, _-_, _*_, _≤_}
 use mathlib.Core.Bool.{Bool, true, false}
 use mathlib.Core.Path.{_≡_}
 use mathlib.Core.List.{List, [], _∷_, _++_, map}
@@ -7,13 +7,19 @@ use lib.ListN.{replicate, getD}
 use Rattle.answer.specs.Answer.{Answer, refused, given, after}
 use Rattle.hamming.specs.Byte.{nibbleOf}
 use Rattle.calendar.specs.declared.Window.{Window}
-use Rattle.calendar.specs.Calendar.{closesAt, windowIn}
+use Rattle.calendar.specs.Calendar.{windowIn}
 use Rattle.label.specs.declared.Label.{Label}
+use Rattle.label.specs.declared.pil.Service.the-variants.{InhibitTerminate, Continuation}
 use Rattle.label.specs.Packet.{valueOf, readingOf, writingOf}
-use Rattle.rule.specs.Rule.{noLabel, stands}
+use Rattle.label.specs.Pil.{partsOf, serviceOf}
+use Rattle.rule.specs.Rule.{noLabel, stands, heardAt, openAt, matches, nextCopy, isLive, liveTimer}
+use Rattle.rule.specs.declared.Stamped.{Stamped}
 use Rattle.rule.specs.declared.Booking.{Booking}
-use Rattle.desk.specs.Moments.{fresh, liveCount}
-use Rattle.desk.specs.Calls.{Says, askOf}
+use Rattle.rule.specs.declared.Copy.{Copy}
+use Rattle.rule.specs.declared.Copy.the-variants.{Waiting, Prepared, Recording, RunningOn}
+use Rattle.desk.specs.declared.Desk.{Desk}
+use Rattle.desk.specs.Moments.{fresh, walk, passTo, liveCount}
+use Rattle.desk.specs.Calls.{Says, placeOf, packetOf, timerAt, askOf}
 use Rattle.sheet.specs.Sheet.{sheetOf}
 use Rattle.history.specs.Run.{Call, packet, wait, add, ask, live, answersOf, reached}
 
@@ -26,6 +32,10 @@ abbrev pub fieldsOr : Answer Label → List ℕ
 fieldsOr (refused n) = n ∷ []
 fieldsOr (given l) =
     l .designation ∷ l .lci ∷ l .luf ∷ l .prf ∷ l .pcs ∷ l .mi ∷ l .spare ∷ l .cni ∷ l .pil ∷ l .pty ∷ []
+
+-- day, month, hour and minute of a PIL
+abbrev pub announced : ℕ → List ℕ
+announced pil = let parts = partsOf pil in parts .day ∷ parts .month ∷ parts .hour ∷ parts .minute ∷ []
 
 -- packet A of 'the sheet program'
 abbrev pub packetA : List ℕ
@@ -40,6 +50,11 @@ pilOf day month hour minute = ((day * 16 + month) * 32 + hour) * 64 + minute
 abbrev pub windowOr : Answer Window → List ℕ
 windowOr (refused n) = n ∷ []
 windowOr (given w) = w .opens ∷ w .closes ∷ []
+
+-- a refusal's number alone, or the close
+abbrev pub closeOr : Answer Window → List ℕ
+closeOr (refused n) = n ∷ []
+closeOr (given w) = w .closes ∷ []
 
 -- the number by which a nibble says that its byte is damaged
 abbrev pub isDamaged : ℕ
@@ -132,7 +147,10 @@ examples =
       paper = 0 ∷ 0 ∷ isDamaged ∷ [];
     }
     -- 2. 'packet A is CNI 1D65, PIL 7BCDE (15 July 19:30), all other fields 0'; its designation is 2
-    ∷ record { gives = fieldsOr (readingOf packetA); paper = 2 ∷ 0 ∷ 0 ∷ 0 ∷ 0 ∷ 0 ∷ 0 ∷ 0x1D65 ∷ 0x7BCDE ∷ 0 ∷ [] }
+    ∷ record {
+      gives = fieldsOr (readingOf packetA) ++ announced 0x7BCDE;
+      paper = (2 ∷ 0 ∷ 0 ∷ 0 ∷ 0 ∷ 0 ∷ 0 ∷ 0x1D65 ∷ 0x7BCDE ∷ 0 ∷ []) ++ (15 ∷ 7 ∷ 19 ∷ 30 ∷ []);
+    }
     -- 3. 'that PIL in 2002: window 80,006,400 to 80,107,200'
     ∷ record { gives = windowOr (windowIn 0x7BCDE 2); paper = 80006400 ∷ 80107200 ∷ [] }
     -- 4. '3 September 2002, 02:30: 84,312,000 to 84,427,200'
@@ -145,7 +163,7 @@ examples =
     -- 6. '1 January 2000, 02:30: 0 to 100,800'
     ∷ record { gives = windowOr (windowIn (pilOf 1 1 2 30) 0); paper = 0 ∷ 100800 ∷ [] }
     -- 7. '31 December 2099, 20:00 closes at 3,155,774,400'
-    ∷ record { gives = closesAt (pilOf 31 12 20 0) 99 ∷ []; paper = 3155774400 ∷ [] }
+    ∷ record { gives = closeOr (windowIn (pilOf 31 12 20 0) 99); paper = 3155774400 ∷ [] }
     -- 8. 'a label stamped t stands at t+5, not at t+6'
     ∷ record {
       gives = standsAfter (packet 0 t (sent labelHere) ∷ []) (t + 5) ∷ standsAfter (packet 0 t (sent labelHere) ∷ []) (t + 6) ∷ [];
@@ -177,6 +195,73 @@ examples =
     }
     ∷ []
 
+-- ── 8 to 11 for every t, label and desk ────────────────────────────────────────────────────────────────────────────
+-- 'a label stamped t'
+abbrev pub StampedAt : ℕ → Stamped → Type 0
+StampedAt t l = (l .heard ≡ true) × (l .stamp ≡ t)
+
+-- the same label with another stamp
+abbrev pub restamped : ℕ → Stamped → Stamped
+restamped t l = record { heard = l .heard; stamp = t; cni = l .cni; pil = l .pil; prf = l .prf; mi = l .mi }
+
+-- 'RI/T at t over a recording': when every second up to t has passed, the copy of a slot records booking b at place p and remembers
+-- this MI, and then a packet is accepted that puts RI/T at p; d is the desk afterwards, at second t
+pub record Terminated (t slot p : ℕ) (b : Booking) (mi : Bool) (d : Desk) : Type 0 where
+  pub before : Desk
+  pub recording : timerAt (passTo t before) slot ≡ record { booking = b; copy = Recording p mi }
+  pub tuner : ℕ
+  pub bytes : List ℕ
+  pub label : Label
+  pub read : readingOf bytes ≡ given label
+  pub code : serviceOf (label .pil) ≡ InhibitTerminate
+  pub place : placeOf tuner label ≡ p
+  pub accepted : packetOf tuner t bytes before ≡ given d
+
+-- 'nothing else matching': no label but that of place p, at second s
+abbrev pub NothingElse : ℕ → ℕ → Booking → Desk → Type 0
+NothingElse s p b d = (q : ℕ) → (q ≡ p → ⊥) → matches s b (getD (d .places) q noLabel) ≡ false
+
+-- 'throughout': at each second from t to t+30
+abbrev pub Throughout : ℕ → (ℕ → Type 0) → Type 0
+Throughout t P = (s : ℕ) → t ≤ s → s ≤ t + 30 → P s
+
+-- whether a slot's timer is live when n more seconds have passed
+abbrev pub liveIn : ℕ → ℕ → Desk → Bool
+liveIn n slot d = liveTimer (timerAt (walk n d) slot)
+
+-- 'a timer not live' at second s: it waits or is prepared, or 'goes on in this same moment as a timer that is not live' from a
+-- recording with MI 1 whose label matches no longer, or from a run-on of thirty seconds
+pub data NotLive (s : ℕ) (ls : List Stamped) (b : Booking) : Copy → Type 0 where
+  waits : NotLive s ls b Waiting
+  is-prepared : NotLive s ls b Prepared
+  recorded : (p : ℕ) → matches s b (getD ls p noLabel) ≡ false → NotLive s ls b (Recording p true)
+  ran-on : (p v : ℕ) → v + 30 ≤ s → NotLive s ls b (RunningOn p v)
+
+-- 'a match of PRF 1 only': the label of some place matches, and each that matches has PRF 1
+pub record OnlyPrf1 (s : ℕ) (ls : List Stamped) (b : Booking) : Type 0 where
+  pub place : ℕ
+  pub matching : matches s b (getD ls place noLabel) ≡ true
+  pub only : (q : ℕ) → matches s b (getD ls q noLabel) ≡ true → getD ls q noLabel .prf ≡ true
+
 -- the one statement
-abbrev pub Marked : Type 0
-Marked = map (λ e. e .gives) examples ≡ map (λ e. e .paper) examples
+pub record Marked : Type 0 where
+  -- 1 to 12 as a list: what the definitions give is what the paper says, in 8 to 11 at one t
+  pub listed : map (λ e. e .gives) examples ≡ map (λ e. e .paper) examples
+  -- 8. 'a label stamped t stands at t+5, not at t+6'
+  pub eight : (t : ℕ) (l : Stamped) → StampedAt t l → (stands (t + 5) l ≡ true) × (stands (t + 6) l ≡ false)
+  -- 9. 'RI/T at t over a recording with MI 0, nothing else matching and the window open throughout: live at t+29, not at t+30'; it is
+  -- live at every second before t+29, too
+  pub nine : (t slot p : ℕ) (b : Booking) (d : Desk) → Terminated t slot p b false d →
+      Throughout t (λ s. NothingElse s p b d) → Throughout t (λ s. openAt s b ≡ true) →
+      ((n : ℕ) → n ≤ 29 → liveIn n slot d ≡ true) × (liveIn 30 slot d ≡ false)
+  -- 'with MI 1 not live at t'
+  pub nine-mi-1 : (t slot p : ℕ) (b : Booking) (d : Desk) → Terminated t slot p b true d → NothingElse t p b d → liveIn 0 slot d ≡ false
+  -- 10. 'continuation at t+5 keeps a label to t+10; at t+6 it does nothing': the place holds the same label anew stamped, or what it held
+  pub ten : (t : ℕ) (l : Stamped) (c : Label) → StampedAt t l → serviceOf (c .pil) ≡ Continuation →
+      (heardAt (t + 5) c l ≡ restamped (t + 5) l)
+      × ((s : ℕ) → s ≤ t + 10 → stands s (heardAt (t + 5) c l) ≡ true)
+      × (stands (t + 11) (heardAt (t + 5) c l) ≡ false)
+      × (heardAt (t + 6) c l ≡ l)
+  -- 11. 'a timer not live, with a match of PRF 1 only: prepared, not live'
+  pub eleven : (s : ℕ) (ls : List Stamped) (b : Booking) (c : Copy) → NotLive s ls b c → OnlyPrf1 s ls b →
+      (nextCopy s ls b c ≡ Prepared) × (isLive (nextCopy s ls b c) ≡ false)
