@@ -4,21 +4,19 @@ use desk::AskAnswer;
 use desk::Desk;
 use desk::State;
 
-fn state(s: State) -> [u8; 2] {
+fn place_of(s: State) -> u8 {
     match s {
-        State::Waiting => [0, 0],
-        State::Prepared => [1, 0],
-        State::Recording { place } => [2, (place % 256) as u8],
-        State::RunningOn { place } => [3, (place % 256) as u8],
-        State::Ended => [4, 0],
+        State::Recording { place } => (place % 256) as u8,
+        State::RunningOn { place } => (place % 256) as u8,
+        _ => 0,
     }
 }
 
 fn slot(d: Desk, i: usize) -> [u8; 2] {
     let a = d.ask(i);
     match a {
-        AskAnswer::NoTimer => [15, 0],
-        AskAnswer::Says(s) => state(s),
+        AskAnswer::NoTimer => [a.number(), 0],
+        AskAnswer::Says(s) => [s.number(), place_of(s)],
     }
 }
 

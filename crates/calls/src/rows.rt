@@ -3,9 +3,7 @@ ghost use Prim.Native.Nat.{_≤_};
 use answer::four;
 use answer::pair;
 use desk::AddAnswer;
-use desk::CancelAnswer;
 use desk::Desk;
-use desk::SecondAnswer;
 use desk::WaitAnswer;
 
 // What a call says: the number of its refusal or 0, and what it gives.
@@ -46,9 +44,8 @@ fn wait(d: Desk, time: u32) -> Said {
     let next = waited.desk;
     let a = waited.answer;
     match a {
-        WaitAnswer::Before => saying(9, 0, next),
-        WaitAnswer::Past => saying(10, 0, next),
         WaitAnswer::Walked(n) => saying(0, n, next),
+        _ => saying(a.number(), 0, next),
     }
 }
 
@@ -57,11 +54,8 @@ fn add(d: Desk, cni: u16, pil: u32, year: u8) -> Said {
     let next = added.desk;
     let a = added.answer;
     match a {
-        AddAnswer::NotReal => saying(11, 0, next),
-        AddAnswer::Ended => saying(12, 0, next),
-        AddAnswer::Held => saying(13, 0, next),
-        AddAnswer::Full => saying(14, 0, next),
         AddAnswer::Slot(i) => saying(0, (i % 256) as u32, next),
+        _ => saying(a.number(), 0, next),
     }
 }
 
@@ -69,20 +63,14 @@ fn cancel(d: Desk, slot: usize) -> Said {
     let cancelled = d.cancel(slot);
     let next = cancelled.desk;
     let a = cancelled.answer;
-    match a {
-        CancelAnswer::NoTimer => saying(15, 0, next),
-        CancelAnswer::Done => saying(0, 0, next),
-    }
+    saying(a.number(), 0, next)
 }
 
 fn second(d: Desk) -> Said {
     let passed = d.second();
     let next = passed.desk;
     let a = passed.answer;
-    match a {
-        SecondAnswer::Past => saying(10, 0, next),
-        SecondAnswer::Done => saying(0, 0, next),
-    }
+    saying(a.number(), 0, next)
 }
 
 // Any other call is a fresh desk. Asking is no call of a row: every answer asks each slot.

@@ -1,7 +1,7 @@
 pub mod Settle
 pub mod Jump
-pub mod Fast
 pub mod Turns
+pub mod Fast
 pub mod Gate
 pub mod Only
 pub mod Proved

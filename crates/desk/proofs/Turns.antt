@@ -8,30 +8,30 @@ use Rattle.desk.specs.Moments.{moment, clockedAt, nextSecond, walk, pass
 use Rattle.desk.specs.declared.Desk.{Desk}
 use Rattle.desk.proofs.Jump.{quiet-jump, walkedIn-quiet}
 
-more : (t c : ℕ) → c < t → t - c ≡ suc (t - (c + 1))
-more t c h = omega arith
-
 module _ (t : ℕ) (d : Desk) where
+  more : d .clock < t → t - d .clock ≡ suc (t - suc (d .clock))
+  more h = omega arith
+
   -- e is the desk a second later
-  module _ (e : Desk) (q : e ≡ moment (clockedAt (d .clock + 1) d)) where
-    pub turn-clock : e .clock ≡ d .clock + 1
-    unfolding moment
+  module _ (e : Desk) (q : e ≡ nextSecond d) where
+    pub turn-clock : e .clock ≡ suc (d .clock)
+    unfolding nextSecond moment
     turn-clock = rw q
 
     pub turn-pass : d .clock < t → passTo t d ≡ passTo t e
     unfolding passTo walk nextSecond moment
-    turn-pass h = rw (q, more t (d .clock) h, add-one (d .clock))
+    turn-pass h = rw (q, more h)
 
     pub turn-walked : d .clock < t → quiet d ≡ false → walkedTo t d ≡ walkedTo t e + 1
     unfolding walkedTo walkedIn nextSecond moment
-    turn-walked h n = rw (q, more t (d .clock) h, n, add-one (d .clock)) (sym (add-one _))
+    turn-walked h n = rw (q, more h, n) (sym (add-one _))
 
   pub jump-pass : d .clock < t → quiet d ≡ true → passTo t d ≡ moment (clockedAt t d)
   unfolding passTo
   jump-pass h e =
-      let n = t - (d .clock + 1) in
+      let n = t - suc (d .clock) in
       let z : d .clock + suc n ≡ t = omega arith in
-      rw (more t (d .clock) h) (quiet-jump n d e ∙ ap (λ s. moment (clockedAt s d)) z)
+      rw (more h) (quiet-jump n d e ∙ ap (λ s. moment (clockedAt s d)) z)
 
   pub jump-walked : quiet d ≡ true → walkedTo t d ≡ 0
   unfolding walkedTo

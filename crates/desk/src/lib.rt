@@ -8,8 +8,9 @@ use rule::Stamped;
 use rule::Timer;
 ghost use mathlib.Core.Bool.{true};
 ghost use mathlib.Core.Path.{_≡_};
+ghost use Rattle.answer.specs.Answer.{number};
 ghost use Rattle.desk.specs.Laws.{Laws};
-ghost use Rattle.desk.specs.Numbers.{packetRefusal, packetNumber};
+ghost use Rattle.desk.specs.Numbers.{packetRefusal, packetNumber, waitAnswer, addAnswer, cancelNumber, stateSays, askAnswer, secondNumber};
 
 pub struct Desk {
     pub clock: u32,
@@ -70,6 +71,19 @@ pub enum WaitAnswer {
     Walked(u32),
 }
 
+impl WaitAnswer {
+    // The refusal's number, or 0.
+    pub fn number(self) -> u8
+        ensures { λ n. ⌜ n ≡ number (waitAnswer self) ⌝ }
+    {
+        match self {
+            WaitAnswer::Before => 9,
+            WaitAnswer::Past => 10,
+            WaitAnswer::Walked(_) => 0,
+        }
+    }
+}
+
 pub struct Waited {
     pub answer: WaitAnswer,
     pub desk: Desk,
@@ -84,6 +98,21 @@ pub enum AddAnswer {
     Slot(usize),
 }
 
+impl AddAnswer {
+    // The refusal's number, or 0.
+    pub fn number(self) -> u8
+        ensures { λ n. ⌜ n ≡ number (addAnswer self) ⌝ }
+    {
+        match self {
+            AddAnswer::NotReal => 11,
+            AddAnswer::Ended => 12,
+            AddAnswer::Held => 13,
+            AddAnswer::Full => 14,
+            AddAnswer::Slot(_) => 0,
+        }
+    }
+}
+
 pub struct Added {
     pub answer: AddAnswer,
     pub desk: Desk,
@@ -93,6 +122,18 @@ pub struct Added {
 pub enum CancelAnswer {
     NoTimer,
     Done,
+}
+
+impl CancelAnswer {
+    // The refusal's number, or 0.
+    pub fn number(self) -> u8
+        ensures { λ n. ⌜ n ≡ cancelNumber self ⌝ }
+    {
+        match self {
+            CancelAnswer::NoTimer => 15,
+            CancelAnswer::Done => 0,
+        }
+    }
 }
 
 pub struct Cancelled {
@@ -109,16 +150,55 @@ pub enum State {
     Ended,
 }
 
+impl State {
+    // Its number in the paper's order of the five, from 0.
+    pub fn number(self) -> u8
+        ensures { λ n. ⌜ n ≡ stateSays self .state ⌝ }
+    {
+        match self {
+            State::Waiting => 0,
+            State::Prepared => 1,
+            State::Recording { place: _ } => 2,
+            State::RunningOn { place: _ } => 3,
+            State::Ended => 4,
+        }
+    }
+}
+
 // Refusal 15, or the timer's state.
 pub enum AskAnswer {
     NoTimer,
     Says(State),
 }
 
+impl AskAnswer {
+    // The refusal's number, or 0.
+    pub fn number(self) -> u8
+        ensures { λ n. ⌜ n ≡ number (askAnswer self) ⌝ }
+    {
+        match self {
+            AskAnswer::NoTimer => 15,
+            AskAnswer::Says(_) => 0,
+        }
+    }
+}
+
 // Refusal 10, or nothing more to say.
 pub enum SecondAnswer {
     Past,
     Done,
+}
+
+impl SecondAnswer {
+    // The refusal's number, or 0.
+    pub fn number(self) -> u8
+        ensures { λ n. ⌜ n ≡ secondNumber self ⌝ }
+    {
+        match self {
+            SecondAnswer::Past => 10,
+            SecondAnswer::Done => 0,
+        }
+    }
 }
 
 pub struct Passed {

@@ -1,7 +1,8 @@
 // Moments, seconds and waits. The seconds after which a desk is quiet are not walked one by one: see `pass`.
+ghost use Prim.Native.Nat.{_<_};
 ghost use mathlib.Core.Path.{_≡_};
 ghost use Rattle.answer.specs.Answer.{number, after};
-ghost use Rattle.desk.specs.Moments.{fresh, moment, clockedAt, quiet, passTo, walkedTo};
+ghost use Rattle.desk.specs.Moments.{fresh, moment, clockedAt, nextSecond, quiet, passTo, walkedTo};
 ghost use Rattle.desk.specs.Calls.{waitOf, secondOf};
 ghost use Rattle.desk.specs.Numbers.{waitAnswer, saidBy, leftBy, secondNumber};
 use crate::Desk;
@@ -51,6 +52,14 @@ impl Desk {
         }
     }
 
+    // 'Each whole second is a moment.'
+    fn step(self) -> Desk
+        requires { ⌜ self .clock < 4294967295 ⌝ }
+        ensures { λ r. ⌜ r ≡ nextSecond self ⌝ }
+    {
+        self.moment_at(self.clock + 1)
+    }
+
     pub(crate) fn moment(self) -> Desk
         ensures { λ r. ⌜ r ≡ moment self ⌝ }
     {
@@ -84,8 +93,7 @@ impl Desk {
                     desk: last,
                 };
             }
-            let c = d.clock;
-            d = d.moment_at(c + 1);
+            d = d.step();
             n += 1;
         }
         Pass { walked: n, desk: d }
@@ -121,14 +129,13 @@ impl Desk {
     pub fn second(self) -> Passed
         ensures { λ r. ⌜ (secondNumber (r .answer) ≡ number (secondOf self)) × (r .desk ≡ after self (secondOf self)) ⌝ }
     {
-        let c = self.clock;
-        if CLOCK_END <= c {
+        if CLOCK_END <= self.clock {
             return Passed {
                 answer: SecondAnswer::Past,
                 desk: self,
             };
         }
-        let next = self.moment_at(c + 1);
+        let next = self.step();
         Passed {
             answer: SecondAnswer::Done,
             desk: next,

@@ -1,5 +1,5 @@
 -- What every reachable desk keeps, after every call and at every second inside a wait.
-use Prim.Native.Nat.{ℕ, zero, suc, _+_, _-_, _≤_, _<_}
+use Prim.Native.Nat.{ℕ, suc, _-_, _≤_, _<_}
 use mathlib.Core.Path.{_≡_, refl, sym, ap, _∙_}
 use mathlib.Core.Bool.{Bool, true, false, cond, not, _&&_, true≢false}
 use mathlib.Core.List.{List, [], _∷_}
@@ -24,18 +24,18 @@ use Rattle.desk.specs.declared.Desk.{Desk}
 use Rattle.sixteen.specs.Sixteen.{noTimer, active, sameBooking}
 use Rattle.desk.specs.Moments.{fresh, moment, clockedAt, nextSecond, walk, passTo}
 use Rattle.desk.specs.Calls.{placeOf, withLabel, withTimer, timerAt}
-use Rattle.desk.proofs.Settle.{moment-settled}
+use Rattle.desk.proofs.Settle.{moment-settled, walk-keeps}
 use Rattle.desk.proofs.Jump.{none-at, timerAt-moment}
 use Rattle.history.specs.Run.{Call, outcome, left, deskAfter, reached}
 use Rattle.history.specs.Laws.{SinceBy, Sound}
 use Rattle.history.proofs.Lists.{getD-set, getD-same}
 use Rattle.history.proofs.Windows.{open-later, not-ended-before}
+use Rattle.history.proofs.Waits.{passTo-clock}
 use Rattle.history.proofs.Next.{Next, next-is, next-held, next-live, next-since, since-later}
 use Rattle.history.proofs.Steps.{Step, same, hears, waits, passes, adds, cancels, step}
 
 -- what holds before a moment: as Sound, but that a live copy's window may have ended by now
 record Pre (d : Desk) : Type 0 where
-  pub clock-within : d .clock ≤ clockEnd
   pub sixteen : (length (d .places) ≡ 16) × (length (d .timers) ≡ 16)
   pub stamps : (p : ℕ) → getD (d .places) p noLabel .stamp ≤ d .clock
   pub run-ons : (slot : ℕ) → SinceBy (d .clock) (timerAt d slot .copy)
@@ -65,7 +65,6 @@ module _ (d : Desk) (slot : ℕ) where
 sound-moment : (d : Desk) → Pre d → Sound (moment d)
 unfolding moment
 sound-moment d h = record {
-  clock-within = h .clock-within;
   sixteen = (h .sixteen .0, length-map (d .timers) (nextTimer (d .clock) (d .places)) ∙ h .sixteen .1);
   stamps = h .stamps;
   run-ons = λ slot. next-since _ _ _ (copy-moment d slot) (h .run-ons slot);
@@ -82,9 +81,8 @@ active-before s s′ k t a =
     let h = both-true (held (t .copy)) (not (endedAt s′ (t .booking))) a in
     rw (h .0, not-ended-before (t .booking) s s′ k (not-true (endedAt s′ (t .booking)) (h .1)))
 
-pre-at : (s : ℕ) (d : Desk) → Sound d → d .clock ≤ s → s ≤ clockEnd → Pre (clockedAt s d)
-pre-at s d h k l = record {
-  clock-within = l;
+pre-at : (s : ℕ) (d : Desk) → Sound d → d .clock ≤ s → Pre (clockedAt s d)
+pre-at s d h k = record {
   sixteen = h .sixteen;
   stamps = λ p. omega (arith, h .stamps p);
   run-ons = λ slot. since-later (d .clock) s k (timerAt d slot .copy) (h .run-ons slot);
@@ -94,20 +92,18 @@ pre-at s d h k l = record {
 }
 
 pre-now : (d : Desk) → Sound d → Pre d
-pre-now d h = pre-at (d .clock) d h (omega arith) (h .clock-within)
+pre-now d h = pre-at (d .clock) d h (omega arith)
 
-sound-second : (d : Desk) → Sound d → d .clock < clockEnd → Sound (nextSecond d)
+sound-second : (d : Desk) → Sound d → Sound (nextSecond d)
 unfolding nextSecond
-sound-second d h k = sound-moment (clockedAt (suc (d .clock)) d) (pre-at (suc (d .clock)) d h (omega arith) k)
+sound-second d h = sound-moment (clockedAt (suc (d .clock)) d) (pre-at (suc (d .clock)) d h (omega arith))
 
-pub sound-walk : (n : ℕ) (d : Desk) → Sound d → d .clock + n ≤ clockEnd → Sound (walk n d)
-unfolding walk nextSecond moment
-sound-walk zero d h k = h
-sound-walk (suc n) d h k = sound-walk n (nextSecond d) (sound-second d h (omega arith)) (omega arith)
+pub sound-walk : (n : ℕ) (d : Desk) → Sound d → Sound (walk n d)
+sound-walk = walk-keeps Sound sound-second
 
-sound-pass : (t : ℕ) (d : Desk) → Sound d → d .clock ≤ t → t ≤ clockEnd → Sound (passTo t d)
+sound-pass : (t : ℕ) (d : Desk) → Sound d → Sound (passTo t d)
 unfolding passTo
-sound-pass t d h k l = sound-walk (t - d .clock) d h (omega arith)
+sound-pass t d h = sound-walk (t - d .clock) d h
 
 -- ── calls ──────────────────────────────────────────────────────────────────────────────────────────────────────────
 cond-stamp : (s : ℕ) (b : Bool) (x y : Stamped) → x .stamp ≤ s → y .stamp ≤ s → cond b x y .stamp ≤ s
@@ -124,7 +120,6 @@ pre-label tuner l d h =
     let p = placeOf tuner l in
     let v = heardAt (d .clock) l (getD (d .places) p noLabel) in
     record {
-      clock-within = h .clock-within;
       sixteen = (length-set (d .places) p v ∙ h .sixteen .0, h .sixteen .1);
       stamps = λ q. elim (getD-set noLabel v (d .places) p q) [
         | inl e ↦ rw (e .1) (heardAt-stamp (d .clock) l (getD (d .places) p noLabel) (h .stamps p))
@@ -154,7 +149,6 @@ module _ (d : Desk) (slot : ℕ) (t : Timer) (h : Pre d) (dead : isLive (t .copy
   pre-timer =
       let at-slot = getD-set noTimer t (d .timers) slot in
       record {
-        clock-within = h .clock-within;
         sixteen = (h .sixteen .0, length-set (d .timers) slot t ∙ h .sixteen .1);
         stamps = h .stamps;
         run-ons = λ i. elim (at-slot i) [ inl e ↦ rw (e .1) since | inr e ↦ rw e (h .run-ons i) ];
@@ -177,25 +171,35 @@ module _ (d : Desk) (h : Sound d) where
 
   pub keeps : {c : Call} {e : Desk} → Step d c e → Sound e
   keeps same = h
-  keeps (hears tuner t l k m) = sound-moment _ (pre-label tuner l (passTo t d) (pre-now (passTo t d) (sound-pass t d h k m)))
-  keeps (waits t k m) = sound-moment (passTo t d) (pre-now (passTo t d) (sound-pass t d h k m))
-  keeps (passes k) = sound-second d h k
+  keeps (hears tuner t l k m) = sound-moment _ (pre-label tuner l (passTo t d) (pre-now (passTo t d) (sound-pass t d h)))
+  keeps (waits t k m) = sound-moment (passTo t d) (pre-now (passTo t d) (sound-pass t d h))
+  keeps (passes k) = sound-second d h
   keeps (adds b w slot e alone room) =
       sound-moment _ (pre-timer d slot (record { booking = b; copy = Waiting }) (pre-now d h) refl tt (λ a. unlike b alone) (λ k. (w, e)))
   keeps (cancels slot e) =
       sound-moment _ (pre-timer d slot noTimer (pre-now d h) refl tt (λ a. absurd (true≢false (sym a))) (λ k. absurd (true≢false (sym k))))
 
-keeps-calls : (cs : List Call) (d : Desk) → Sound d → Sound (deskAfter cs d)
+-- no call passes the clock's end
+within : (d : Desk) → d .clock ≤ clockEnd → {c : Call} {e : Desk} → Step d c e → e .clock ≤ clockEnd
+unfolding moment nextSecond
+within d h same = h
+within d h (hears tuner t l k m) = rw (passTo-clock d t k) m
+within d h (waits t k m) = rw (passTo-clock d t k) m
+within d h (passes k) = k
+within d h (adds b w slot e alone room) = h
+within d h (cancels slot e) = h
+
+-- what each call keeps, all of them keep
+kept : (P : Desk → Type 0) → ((d : Desk) (c : Call) → P d → P (left d (outcome c d))) → (cs : List Call) (d : Desk) → P d → P (deskAfter cs d)
 unfolding deskAfter
-keeps-calls [] d h = h
-keeps-calls (c ∷ cs) d h = keeps-calls cs (left d (outcome c d)) (keeps d h (step d c))
+kept P h [] d p = p
+kept P h (c ∷ cs) d p = kept P h cs (left d (outcome c d)) (h d c p)
 
 sound-fresh : Sound fresh
 unfolding moment nextTimer nextCopy
 sound-fresh =
     let free = getD-same noTimer 16 in
     record {
-      clock-within = omega arith;
       sixteen = (refl, refl);
       stamps = λ p. rw (getD-same noLabel 16 p) (omega arith);
       run-ons = λ slot. rw (free slot) tt;
@@ -206,4 +210,7 @@ sound-fresh =
     }
 
 pub sound-reached : (cs : List Call) → Sound (reached cs)
-sound-reached cs = keeps-calls cs fresh sound-fresh
+sound-reached cs = kept Sound (λ d c h. keeps d h (step d c)) cs fresh sound-fresh
+
+pub clock-within : (cs : List Call) → (reached cs) .clock ≤ clockEnd
+clock-within cs = kept (λ d. d .clock ≤ clockEnd) (λ d c h. within d h (step d c)) cs fresh (omega arith)

@@ -7,7 +7,7 @@ use Rattle.history.proofs.Refused.{accepted-alone}
 use Rattle.history.proofs.Waits.{cut, wait-before}
 use Rattle.history.proofs.Walked.{walked-least, walked-unique}
 use Rattle.history.proofs.Short.{walked-short}
-use Rattle.history.proofs.Keeps.{sound-walk, sound-reached}
+use Rattle.history.proofs.Keeps.{sound-walk, sound-reached, clock-within}
 use Rattle.history.proofs.OneCopy.{one-copy, no-two}
 use Rattle.history.proofs.Stays.{stays, starts}
 
@@ -18,12 +18,13 @@ laws =
       accepted-alone = accepted-alone;
       cut = λ cs us t later each from end. cut us t each end (reached cs) (sound-reached cs .settled) from later;
       wait-before = λ cs u tuner t bytes. wait-before u tuner t bytes (reached cs) (sound-reached cs .settled);
-      one-copy = λ cs n cni pil k. one-copy _ (sound-walk n (reached cs) (sound-reached cs) k) cni pil;
-      no-two = λ cs n i j k. no-two _ (sound-walk n (reached cs) (sound-reached cs) k) i j;
+      one-copy = λ cs n. one-copy _ (sound-walk n (reached cs) (sound-reached cs));
+      no-two = λ cs n. no-two _ (sound-walk n (reached cs) (sound-reached cs));
       walked-least = walked-least;
       walked-unique = walked-unique;
       walked-short = λ cs t. walked-short (t - reached cs .clock) (reached cs) (sound-reached cs);
       sound = λ cs n. sound-walk n (reached cs) (sound-reached cs);
+      clock-within = clock-within;
       stays = λ cs. stays (reached cs) (sound-reached cs);
       starts = starts;
     }

@@ -58,7 +58,6 @@ SinceBy s (RunningOn p v) = v ≤ s
 
 -- what every reachable desk keeps
 pub record Sound (d : Desk) : Type 0 where
-  pub clock-within : d .clock ≤ clockEnd
   pub sixteen : (length (d .places) ≡ 16) × (length (d .timers) ≡ 16)
   -- no stamp and no run-on lies after the clock
   pub stamps : (p : ℕ) → getD (d .places) p noLabel .stamp ≤ d .clock
@@ -95,9 +94,9 @@ pub record Laws : Type 0 where
   -- nor does a wait put before a packet, up to its second
   pub wait-before : (cs : List Call) (u tuner t : ℕ) (bytes : List ℕ) → u ≤ t →
       packetOf tuner t bytes (deskAfter (wait u ∷ []) (reached cs)) ≡ packetOf tuner t bytes (reached cs)
-  -- no programme ever has two live copies: after every call, and at every second inside a wait
-  pub one-copy : (cs : List Call) (n cni pil : ℕ) → (reached cs) .clock + n ≤ clockEnd → count (copyOf cni pil) (walk n (reached cs) .timers) ≤ 1
-  pub no-two : (cs : List Call) (n i j : ℕ) → (reached cs) .clock + n ≤ clockEnd → i < j →
+  -- no programme ever has two live copies: after every call, and at every second that passes, past the clock's end too
+  pub one-copy : (cs : List Call) (n cni pil : ℕ) → count (copyOf cni pil) (walk n (reached cs) .timers) ≤ 1
+  pub no-two : (cs : List Call) (n i j : ℕ) → i < j →
       let t = timerAt (walk n (reached cs)) i in let u = timerAt (walk n (reached cs)) j in
       liveTimer t ≡ true → liveTimer u ≡ true → t .booking .cni ≡ u .booking .cni → t .booking .pil ≡ u .booking .pil → ⊥
   -- the walked count is that least number, no other number is, and it is never more than 36
@@ -105,7 +104,9 @@ pub record Laws : Type 0 where
   pub walked-unique : (n k : ℕ) (d : Desk) → Walked n d k → k ≡ walkedIn n d
   pub walked-short : (cs : List Call) (t : ℕ) → walkedTo t (reached cs) ≤ 36
   -- every reachable desk, after every call and at every second inside a wait
-  pub sound : (cs : List Call) (n : ℕ) → (reached cs) .clock + n ≤ clockEnd → Sound (walk n (reached cs))
+  pub sound : (cs : List Call) (n : ℕ) → Sound (walk n (reached cs))
+  -- no call passes the clock's end
+  pub clock-within : (cs : List Call) → (reached cs) .clock ≤ clockEnd
   -- a recording stays with its place while its own label stands there, whatever is heard elsewhere
   pub stays : (cs : List Call) (c : Call) (slot place : ℕ) (mi : Bool) → (c ≡ cancel slot → ⊥) →
       let d = reached cs in let e = deskAfter (c ∷ []) d in let b = timerAt d slot .booking in

@@ -66,12 +66,10 @@ pub(crate) fn timer_line(out: &mut [u8], at: usize, a: AddAnswer) -> usize
     ensures { λ r. ⌜ Stored (now (out .entry)) at (timerLine (addAnswer a)) r (now (out .exit)) ⌝ }
 {
     let next = open_line(out, at, b'T');
+    let number = a.number();
     match a {
-        AddAnswer::NotReal => refusal(out, next, 11),
-        AddAnswer::Ended => refusal(out, next, 12),
-        AddAnswer::Held => refusal(out, next, 13),
-        AddAnswer::Full => refusal(out, next, 14),
         AddAnswer::Slot(i) => end_line(out, next, i),
+        _ => refusal(out, next, number as usize),
     }
 }
 

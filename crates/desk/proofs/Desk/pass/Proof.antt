@@ -34,11 +34,8 @@ returns c =
     let z = jump-walked t d q in
     (omega (arith, b .loop .inv .0), c .moment-at .ensures ∙ sym (b .loop .inv .1 ∙ jump-pass t d (k .if1 .taken) q))
 
-add-moment-at : tie.Need-add-moment-at Inv-loop μ-loop
-add-moment-at c = search needs
-
-moment-at-requires-2 : tie.Need-moment-at-requires-2 Inv-loop μ-loop
-moment-at-requires-2 c κs = search needs
+step-requires : tie.Need-step-requires Inv-loop μ-loop
+step-requires c κs = search needs
 
 add-n : tie.Need-add-n Inv-loop μ-loop
 add-n c = search needs
@@ -46,7 +43,7 @@ add-n c = search needs
 loop-less : tie.Need-loop-less Inv-loop μ-loop
 loop-less c =
     let k = c .before .before .before in
-    let e = turn-clock 0 (k .before .before .loop .d) _ (c .moment-at2 .ensures) in
+    let e = turn-clock 0 (k .before .before .loop .d) _ (c .step .ensures) in
     omega (arith, k .if1 .taken)
 
 loop-again : tie.Need-loop-again Inv-loop μ-loop
@@ -55,8 +52,8 @@ loop-again c =
     let b = k .before .before in
     let t = b .before .args .t in
     let d = b .loop .d in
-    let r = c .moment-at2 .result in
-    let q = c .moment-at2 .ensures in
+    let r = c .step .result in
+    let q = c .step .ensures in
     let e = turn-clock t d r q in
     let u = turn-walked t d r q (k .if1 .taken) (sym (c .before .before .quiet .ensures) ∙ c .before .if2 .left) in
     (omega (arith, b .loop .inv .0), b .loop .inv .1 ∙ turn-pass t d r q (k .if1 .taken), omega (arith, k .if1 .taken, b .loop .inv .2))
@@ -79,8 +76,7 @@ pass-spec =
     quiet-requires
     moment-at-requires
     returns
-    add-moment-at
-    moment-at-requires-2
+    step-requires
     add-n
     loop-less
     loop-again
