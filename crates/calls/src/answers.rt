@@ -8,8 +8,8 @@ fn state(s: State) -> [u8; 2] {
     match s {
         State::Waiting => [0, 0],
         State::Prepared => [1, 0],
-        State::Recording { place } => [2, (place % 256) as u8],
-        State::RunningOn { place } => [3, (place % 256) as u8],
+        State::Recording { place } => [2, place],
+        State::RunningOn { place } => [3, place],
         State::Ended => [4, 0],
     }
 }

@@ -22,13 +22,14 @@ pub struct Booking {
     pub year: u8,
 }
 
-// How a timer's copy stands. An ended timer is one whose window has closed, and is no state of its own.
+// How a timer's copy stands. An ended timer is one whose window has closed, and is no state of its own. A place is a number from 0 to 15, in one
+// byte: a desk with sixteen of these is copied at every call.
 pub enum Copy {
     Free,
     Waiting,
     Prepared,
-    Recording { place: usize, mi: bool },
-    RunningOn { place: usize, since: u32 },
+    Recording { place: u8, mi: bool },
+    RunningOn { place: u8, since: u32 },
 }
 
 pub struct Timer {
@@ -40,5 +41,5 @@ pub struct Timer {
 pub enum Sight {
     Nothing,
     Prepare,
-    Start(usize),
+    Start(u8),
 }

@@ -79,7 +79,8 @@ fn look(s: u32, places: [Stamped; 16], b: Booking, from: usize) -> Sight
         let l = places[i];
         let ours = named(s, b, l);
         if ours & !l.prf {
-            return Sight::Start(i);
+            let place = i as u8;
+            return Sight::Start(place);
         }
         prepared = prepared | ours;
         i += 1;

@@ -26,6 +26,9 @@ array-copy-out-l c = search needs
 named-requires : tie.Need-named-requires Inv-loop μ-loop
 named-requires c κs = search needs
 
+cast-place : tie.Need-cast-place Inv-loop μ-loop
+cast-place c = search needs
+
 returns : tie.Need-returns Inv-loop μ-loop
 returns c =
     let b = c .before .before .before .before .before in
@@ -69,6 +72,7 @@ look-spec =
     mul-l
     array-copy-out-l
     named-requires
+    cast-place
     returns
     add-i
     loop-less
