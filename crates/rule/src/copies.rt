@@ -9,7 +9,7 @@ use crate::Timer;
 use crate::matching::ended_at;
 use crate::matching::matches;
 use crate::matching::sight_of;
-use crate::standing::label_at;
+use crate::places::label_at;
 
 // 'It runs on while s - v < 30.'
 const RUN_FOR: u64 = 30;

@@ -1,6 +1,7 @@
 // The second-by-second rule for one timer: what stands at the places, what matches, and how its copy goes on at a moment.
 pub mod copies; // how a copy goes on at a moment
 pub mod matching; // windows, matches, and what a timer sees
+pub mod places; // the sixteen places as an array
 pub mod standing; // what a place holds, and how long it stands
 
 // The wider fields of a struct come first, so that none is padded inside: the desk holds sixteen of each, and every call copies it whole.

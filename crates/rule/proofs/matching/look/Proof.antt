@@ -1,5 +1,5 @@
 -- The loop's invariant: what the whole look sees is what it sees from place i on, where `prepared` says whether PRF 1 was seen before.
-use Prim.Native.Nat.{_≤_, _-_}
+use Prim.Native.Nat.{_-_}
 use mathlib.Core.Path.{_≡_, sym, _∙_}
 use lib.ListN.{length}
 use borrow.Author.Needs.{needs}
