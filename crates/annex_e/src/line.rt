@@ -33,8 +33,8 @@ fn time(at: u32) {
 }
 
 // A place as tuner/LCI.
-fn place(p: usize) {
-    let digits = [b'0' + (p / 4 % 4) as u8, b'/', b'0' + (p % 4) as u8];
+fn place(p: u8) {
+    let digits = [b'0' + p / 4 % 4, b'/', b'0' + p % 4];
     text(&digits);
 }
 

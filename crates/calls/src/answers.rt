@@ -6,8 +6,8 @@ use desk::State;
 
 fn place_of(s: State) -> u8 {
     match s {
-        State::Recording { place } => (place % 256) as u8,
-        State::RunningOn { place } => (place % 256) as u8,
+        State::Recording { place } => place,
+        State::RunningOn { place } => place,
         _ => 0,
     }
 }

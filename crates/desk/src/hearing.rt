@@ -10,9 +10,9 @@ use crate::PacketRefusal;
 use crate::moments::CLOCK_END;
 use label::Label;
 use label::Reading;
+use rule::places::label_at;
+use rule::places::put_label;
 use rule::standing::heard_at;
-use rule::standing::label_at;
-use sixteen::places::put_label;
 
 impl Desk {
     // 'Sixteen places, a tuner 0 to 3 with an LCI 0 to 3, ordered by tuner, then LCI.'

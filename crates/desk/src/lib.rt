@@ -145,8 +145,8 @@ pub struct Cancelled {
 pub enum State {
     Waiting,
     Prepared,
-    Recording { place: usize },
-    RunningOn { place: usize },
+    Recording { place: u8 },
+    RunningOn { place: u8 },
     Ended,
 }
 

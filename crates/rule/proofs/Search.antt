@@ -1,15 +1,16 @@
 -- A loop that searches a list: what is found from i on, over what is left from i on, at each turn and at the end.
 use Prim.Native.Nat.{ℕ, suc, _+_, _≤_, _<_}
-use mathlib.Core.Path.{_≡_, refl}
+use mathlib.Core.Path.{_≡_, refl, sym, ap, _∙_}
 use mathlib.Core.Bool.{Bool, true, false, _||_}
 use mathlib.Core.List.{List, [], _∷_}
+use native.Mathlib.Omega.{arith}
+use native.Mathlib.Nat.{zero-add, add-zero, add-suc, suc-add}
+use native.Mathlib.Numerals.{add-one}
 use lib.ListN.{length, getD, drop, drop-of-length-le}
 use lib.Seq.{drop-cons}
-use native.Mathlib.Nat.{add-zero, add-suc, suc-add}
-use native.Mathlib.Numerals.{add-one}
 use Rattle.answer.proofs.Cases.{by-test}
 use Rattle.answer.specs.Lists.{some}
-use Rattle.rule.specs.Rule.{nowhere, at, lowestFrom}
+use Rattle.rule.specs.Rule.{Found, nowhere, at, lowestFrom, lowest}
 use Rattle.rule.specs.Look.{before}
 
 module _ {A : Type 0} (f : A → Bool) (xs : List A) (i : ℕ) where
@@ -28,16 +29,60 @@ module _ {A : Type 0} (f : A → Bool) (xs : List A) (i : ℕ) where
   pub some-past-end : length xs ≤ i → some f (drop i xs) ≡ false
   some-past-end h = rw (drop-of-length-le xs h)
 
-  pub before-hit : (d : A) → i < length xs → f (getD xs i d) ≡ true → i + before f (drop i xs) ≡ i
-  before-hit d h e = rw (drop-cons xs i d h, e, add-zero)
+-- ── the first of sixteen that passes ───────────────────────────────────────────────────────────────────────────────
+abbrev isAt : Found → Bool
+isAt nowhere = false
+isAt (at i) = true
 
-  pub before-miss : (d : A) → i < length xs → f (getD xs i d) ≡ false → i + before f (drop i xs) ≡ (i + 1) + before f (drop (i + 1) xs)
-  before-miss d h e = rw (drop-cons xs i d h, e, add-one i, add-suc, suc-add)
+abbrev orElse : ℕ → Found → ℕ
+orElse n nowhere = n
+orElse n (at i) = i
 
-  pub before-none : length xs ≤ i → i + before f (drop i xs) ≡ i
-  before-none h = rw (drop-of-length-le xs h, add-zero)
+module _ {A : Type 0} (f : A → Bool) where
+  -- whether one passes, and how many come before it, by where the first is
+  some-lowest : (i : ℕ) (xs : List A) → some f xs ≡ isAt (lowestFrom f i xs)
+  some-lowest i [] = refl
+  some-lowest i (x ∷ xs) = by-test (f x) (λ e. rw e) (λ e. rw e (some-lowest (suc i) xs))
 
--- nothing is found before the first element that passes a wider test
+  before-lowest : (i : ℕ) (xs : List A) → i + before f xs ≡ orElse (i + length xs) (lowestFrom f i xs)
+  before-lowest i [] = refl
+  before-lowest i (x ∷ xs) =
+      by-test (f x) (λ e. rw (e, add-zero)) (λ e. simp (e, add-suc) (simp suc-add at (before-lowest (suc i) xs)))
+
+  module _ (xs : List A) where
+    before-all : before f xs ≡ orElse (length xs) (lowest f xs)
+    before-all = simp zero-add at (before-lowest 0 xs)
+
+    -- the loop's invariant: none was found before i
+    abbrev pub NotBefore : ℕ → Type 0
+    NotBefore i = (i ≤ 16) × (length xs ≡ 16) × (lowest f xs ≡ lowestFrom f i (drop i xs))
+
+    -- a turn, whose test said b
+    module _ (d : A) {i : ℕ} {b : Bool} (n : NotBefore i) (h : i < 16) (e : b ≡ f (getD xs i d)) where
+      pub hit : b ≡ true → lowest f xs ≡ at i
+      hit t = n .2 ∙ lowest-hit f xs i d (omega arith) (sym e ∙ t)
+
+      pub some-hit : b ≡ true → true ≡ some f xs
+      some-hit t = sym (some-lowest 0 xs ∙ ap isAt (hit t))
+
+      pub before-hit : b ≡ true → i ≡ before f xs
+      before-hit t = sym (before-all ∙ ap (orElse (length xs)) (hit t))
+
+      pub miss : b ≡ false → NotBefore (i + 1)
+      miss t = (omega arith, n .1, n .2 ∙ lowest-miss f xs i d (omega arith) (sym e ∙ t))
+
+    -- the end
+    module _ {i : ℕ} (n : NotBefore i) (h : 16 ≤ i) where
+      pub none : lowest f xs ≡ nowhere
+      none = n .2 ∙ lowest-none f xs i (omega arith)
+
+      pub some-missed : false ≡ some f xs
+      some-missed = sym (some-lowest 0 xs ∙ ap isAt none)
+
+      pub before-missed : 16 ≡ before f xs
+      before-missed = sym (before-all ∙ ap (orElse (length xs)) none ∙ n .1)
+
+-- ── nothing is found before the first element that passes a wider test ─────────────────────────────────────────────
 module _ {A : Type 0} (f g : A → Bool) (wider : (x : A) → f x ≡ false → g x ≡ false) where
   pub lowest-past : (i : ℕ) (xs : List A) → lowestFrom g i xs ≡ lowestFrom g (i + before f xs) (drop (before f xs) xs)
   lowest-past i [] = refl

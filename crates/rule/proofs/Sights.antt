@@ -6,6 +6,7 @@ use mathlib.Core.List.{List, [], _∷_}
 use lib.Dec.{eqb}
 use lib.ListN.{length, getD, drop}
 use native.Mathlib.Nat.{zero-add}
+use Rattle.answer.proofs.Every.{all-of, some-same, none-some}
 use Rattle.answer.proofs.Cases.{by-test}
 use Rattle.answer.specs.Lists.{some}
 use Rattle.rule.specs.Rule.{noLabel, stands, nowhere, lowestFrom, sightBy, openAt, matches, sightOf}
@@ -77,33 +78,27 @@ lowest-open : {A : Type 0} (f g : A → Bool) → ((x : A) → f x ≡ g x) → 
 lowest-open f g h i [] = refl
 lowest-open f g h i (x ∷ xs) = rw (h x, lowest-open f g h (suc i) xs)
 
-some-open : {A : Type 0} (f g : A → Bool) → ((x : A) → f x ≡ g x) → (xs : List A) → some f xs ≡ some g xs
-some-open f g h [] = refl
-some-open f g h (x ∷ xs) = rw (h x, some-open f g h xs)
-
 lowest-shut : {A : Type 0} (f : A → Bool) → ((x : A) → f x ≡ false) → (i : ℕ) (xs : List A) → lowestFrom f i xs ≡ nowhere
 lowest-shut f h i [] = refl
 lowest-shut f h i (x ∷ xs) = rw (h x, lowest-shut f h (suc i) xs)
-
-some-shut : {A : Type 0} (f : A → Bool) → ((x : A) → f x ≡ false) → (xs : List A) → some f xs ≡ false
-some-shut f h [] = refl
-some-shut f h (x ∷ xs) = rw (h x, some-shut f h xs)
 
 module _ (s : ℕ) (ls : List Stamped) (b : Booking) where
   sight-open : openAt s b ≡ true → sightOf s ls b ≡ lookOf s ls b
   unfolding sightOf lookOf
   sight-open e =
       let m : (l : Stamped) → matches s b l ≡ named s b l = λ l. rw (match-named s b l, e, and-true) in
+      let q : (l : Stamped) → (matches s b l && l .prf) ≡ (named s b l && l .prf) = λ l. rw (m l) in
       rw (
         lowest-open (λ l. matches s b l && not (l .prf)) (λ l. named s b l && not (l .prf)) (λ l. rw (m l)) 0 ls,
-        some-open (λ l. matches s b l && l .prf) (λ l. named s b l && l .prf) (λ l. rw (m l)) ls,
+        some-same (λ l. matches s b l && l .prf) (λ l. named s b l && l .prf) ls (all-of q ls),
       )
 
   pub sight-shut : openAt s b ≡ false → sightOf s ls b ≡ Nothing
   unfolding sightOf
   sight-shut e =
       let m : (l : Stamped) → matches s b l ≡ false = λ l. rw (match-named s b l, e, and-false) in
-      rw (lowest-shut (λ l. matches s b l && not (l .prf)) (λ l. rw (m l)) 0 ls, some-shut (λ l. matches s b l && l .prf) (λ l. rw (m l)) ls)
+      let q : (l : Stamped) → (matches s b l && l .prf) ≡ false = λ l. rw (m l) in
+      rw (lowest-shut (λ l. matches s b l && not (l .prf)) (λ l. rw (m l)) 0 ls, none-some (λ l. matches s b l && l .prf) ls (all-of q ls))
 
   pub sight-look : sightOf s ls b ≡ cond (openAt s b) (lookOf s ls b) Nothing
   sight-look = by-test (openAt s b) (λ o. rw o (sight-open o)) (λ o. rw o (sight-shut o))

@@ -1,14 +1,16 @@
 -- Where the code may leave a test out: a timer that is not live sees nothing once its window has ended, and a free slot stays free.
 use Prim.Native.Nat.{ℕ}
-use mathlib.Core.Path.{_≡_, refl, ap}
-use mathlib.Core.Bool.{true, false, cond, and-false, true≢false}
+use mathlib.Core.Path.{_≡_, refl, sym, ap, _∙_}
+use mathlib.Core.Bool.{Bool, true, false, cond, and-false, true≢false}
 use mathlib.Core.List.{List}
 use borrow.Author.Tests.{leb-true, le-ltb}
 use Rattle.answer.specs.Answer.{Answer, refused, given}
 use Rattle.calendar.specs.declared.Window.{Window}
 use Rattle.calendar.specs.Calendar.{windowIn}
-use Rattle.answer.proofs.Cases.{by-test}
-use Rattle.rule.specs.Rule.{openIn, closedIn, openAt, endedAt, sightOf, notLive, movesOr, held, nextCopy, nextTimer}
+use lib.ListN.{getD}
+use Rattle.answer.proofs.Cases.{by-test, both-true}
+use Rattle.rule.specs.Rule.{noLabel, openIn, closedIn, openAt, endedAt, matches, sightOf, recordingAt, notLive, movesOr, fromRecording, fromRunningOn, held, nextCopy, nextTimer}
+use Rattle.rule.specs.Look.{named}
 use Rattle.rule.specs.declared.Stamped.{Stamped}
 use Rattle.rule.specs.declared.Booking.{Booking}
 use Rattle.rule.specs.declared.Copy.{Copy}
@@ -16,7 +18,7 @@ use Rattle.rule.specs.declared.Copy.the-variants.{Free, Waiting, Prepare
 use Rattle.rule.specs.declared.Timer.{Timer}
 use Rattle.rule.specs.declared.Sight.{Sight}
 use Rattle.rule.specs.declared.Sight.the-variants.{Nothing, Prepare, Start}
-use Rattle.rule.proofs.Sights.{sight-shut}
+use Rattle.rule.proofs.Sights.{match-named, sight-shut}
 
 ended-in : (s : ℕ) (a : Answer Window) → closedIn s a ≡ true → openIn s a ≡ false
 ended-in s (refused n) e = refl
@@ -26,6 +28,12 @@ ended-in s (given w) e = rw (le-ltb s (w .closes) (leb-true (w .closes) s e), an
 ended-shut : (s : ℕ) (b : Booking) → endedAt s b ≡ true → openAt s b ≡ false
 unfolding endedAt openAt
 ended-shut s b e = ended-in s (windowIn (b .pil) (b .year)) e
+
+-- a label that matches has an open window, and that has not ended
+match-open : (s : ℕ) (b : Booking) (l : Stamped) → matches s b l ≡ true → endedAt s b ≡ false
+match-open s b l e =
+    let o : openAt s b ≡ true = (both-true (named s b l) (openAt s b) (sym (match-named s b l) ∙ e)) .1 in
+    by-test (endedAt s b) (λ d. absurd (true≢false (sym o ∙ ended-shut s b d))) (λ d. d)
 
 -- what is not live moves to the lowest place with PRF 0 too
 pub moves-not-live : (ls : List Stamped) (seen : Sight) → movesOr ls seen (notLive ls seen) ≡ notLive ls seen
@@ -45,6 +53,24 @@ module _ (s : ℕ) (ls : List Stamped) (b : Booking) where
   pub next-prepared : nextCopy s ls b Prepared ≡ notLive ls (sightOf s ls b)
   unfolding nextCopy
   next-prepared = ended-waits
+
+  -- what is live, by the tests that lead to each case
+  pub live-over : (c : Copy) → held c ≡ true → endedAt s b ≡ true → nextCopy s ls b c ≡ Waiting
+  unfolding nextCopy
+  live-over c h e = rw (h, e)
+
+  pub recording-stays : (p : ℕ) (mi : Bool) → matches s b (getD ls p noLabel) ≡ true → nextCopy s ls b (Recording p mi) ≡ recordingAt ls p
+  unfolding nextCopy fromRecording
+  recording-stays p mi m = rw (match-open s b (getD ls p noLabel) m, m)
+
+  pub recording-leaves : (p : ℕ) (mi : Bool) → matches s b (getD ls p noLabel) ≡ false → endedAt s b ≡ false →
+      nextCopy s ls b (Recording p mi) ≡ movesOr ls (sightOf s ls b) (cond mi (notLive ls (sightOf s ls b)) (RunningOn p s))
+  unfolding nextCopy fromRecording
+  recording-leaves p mi m e = rw (e, m)
+
+  pub running-on : (p v : ℕ) → endedAt s b ≡ false → nextCopy s ls b (RunningOn p v) ≡ fromRunningOn s ls b p v
+  unfolding nextCopy
+  running-on p v e = rw e
 
 -- ── a free slot ────────────────────────────────────────────────────────────────────────────────────────────────────
 pub not-held : (c : Copy) → held c ≡ false → c ≡ Free

@@ -1,6 +1,6 @@
 // Moments: the copy's next state, by cases of its present one.
 ghost use mathlib.Core.Path.{_≡_};
-ghost use Rattle.rule.specs.Rule.{recordingAt, notLive, movesOr, fromRecording, fromRunningOn, held, nextCopy, nextTimer, isLive, sightOf};
+ghost use Rattle.rule.specs.Rule.{recordingAt, notLive, movesOr, held, nextCopy, nextTimer, isLive, sightOf};
 use crate::Booking;
 use crate::Copy;
 use crate::Sight;
@@ -9,16 +9,16 @@ use crate::Timer;
 use crate::matching::ended_at;
 use crate::matching::matches;
 use crate::matching::sight_of;
-use crate::standing::label_at;
+use crate::places::label_at;
 
 // 'It runs on while s - v < 30.'
 const RUN_FOR: u64 = 30;
 
 // 'It remembers the MI of the label there.'
-fn recording_at(places: [Stamped; 16], p: usize) -> Copy
+fn recording_at(places: [Stamped; 16], p: u8) -> Copy
     ensures { λ r. ⌜ r ≡ recordingAt places p ⌝ }
 {
-    let l = label_at(places, p);
+    let l = label_at(places, p as usize);
     Copy::Recording { place: p, mi: l.mi }
 }
 
@@ -44,14 +44,20 @@ fn moves_or(places: [Stamped; 16], seen: Sight, next: Copy) -> Copy
     }
 }
 
+// 'A closed window comes before all of these: it ends a recording or run-on at once.' A label that still matches has an open window, so the
+// close is asked for only where none does, and the window of a recording that stays is computed once.
 // A copy that is not live moves to the lowest place with PRF 0 too, so `not_live` needs no `moves_or` before it.
-fn from_recording(s: u32, places: [Stamped; 16], b: Booking, p: usize, mi: bool) -> Copy
-    ensures { λ r. ⌜ r ≡ fromRecording s places b p mi ⌝ }
+fn from_recording(s: u32, places: [Stamped; 16], b: Booking, p: u8, mi: bool) -> Copy
+    ensures { λ r. ⌜ r ≡ nextCopy s places b (Copy.Recording p mi) ⌝ }
 {
-    let l = label_at(places, p);
+    let l = label_at(places, p as usize);
     let still = matches(s, b, l);
     if still {
         return Copy::Recording { place: p, mi: l.mi };
+    }
+    let over = ended_at(s, b);
+    if over {
+        return Copy::Waiting;
     }
     let seen = sight_of(s, places, b);
     if mi {
@@ -61,9 +67,13 @@ fn from_recording(s: u32, places: [Stamped; 16], b: Booking, p: usize, mi: bool)
 }
 
 // As in `stands`, the sum has 64 bits.
-fn from_running_on(s: u32, places: [Stamped; 16], b: Booking, p: usize, v: u32) -> Copy
-    ensures { λ r. ⌜ r ≡ fromRunningOn s places b p v ⌝ }
+fn from_running_on(s: u32, places: [Stamped; 16], b: Booking, p: u8, v: u32) -> Copy
+    ensures { λ r. ⌜ r ≡ nextCopy s places b (Copy.RunningOn p v) ⌝ }
 {
+    let over = ended_at(s, b);
+    if over {
+        return Copy::Waiting;
+    }
     let seen = sight_of(s, places, b);
     let on = (s as u64) < v as u64 + RUN_FOR;
     if on {
@@ -80,7 +90,7 @@ fn from_not_live(s: u32, places: [Stamped; 16], b: Booking) -> Copy
     not_live(places, seen)
 }
 
-// 'A closed window comes before all of these: it ends a recording or run-on at once.'
+// The copy's next state, by cases of its present one.
 fn next_copy(s: u32, places: [Stamped; 16], b: Booking, c: Copy) -> Copy
     ensures { λ r. ⌜ r ≡ nextCopy s places b c ⌝ }
 {
@@ -88,22 +98,8 @@ fn next_copy(s: u32, places: [Stamped; 16], b: Booking, c: Copy) -> Copy
         Copy::Free => Copy::Free,
         Copy::Waiting => from_not_live(s, places, b),
         Copy::Prepared => from_not_live(s, places, b),
-        Copy::Recording { place, mi } => {
-            let over = ended_at(s, b);
-            if over {
-                Copy::Waiting
-            } else {
-                from_recording(s, places, b, place, mi)
-            }
-        }
-        Copy::RunningOn { place, since } => {
-            let over = ended_at(s, b);
-            if over {
-                Copy::Waiting
-            } else {
-                from_running_on(s, places, b, place, since)
-            }
-        }
+        Copy::Recording { place, mi } => from_recording(s, places, b, place, mi),
+        Copy::RunningOn { place, since } => from_running_on(s, places, b, place, since),
     }
 }
 

@@ -1,6 +1,7 @@
 // The second-by-second rule for one timer: what stands at the places, what matches, and how its copy goes on at a moment.
 pub mod copies; // how a copy goes on at a moment
 pub mod matching; // windows, matches, and what a timer sees
+pub mod places; // the sixteen places as an array
 pub mod standing; // what a place holds, and how long it stands
 
 // The wider fields of a struct come first, so that none is padded inside: the desk holds sixteen of each, and every call copies it whole.
@@ -22,13 +23,14 @@ pub struct Booking {
     pub year: u8,
 }
 
-// How a timer's copy stands. An ended timer is one whose window has closed, and is no state of its own.
+// How a timer's copy stands. An ended timer is one whose window has closed, and is no state of its own. A place is a number from 0 to 15, in one
+// byte: a desk with sixteen of these is copied at every call.
 pub enum Copy {
     Free,
     Waiting,
     Prepared,
-    Recording { place: usize, mi: bool },
-    RunningOn { place: usize, since: u32 },
+    Recording { place: u8, mi: bool },
+    RunningOn { place: u8, since: u32 },
 }
 
 pub struct Timer {
@@ -40,5 +42,5 @@ pub struct Timer {
 pub enum Sight {
     Nothing,
     Prepare,
-    Start(usize),
+    Start(u8),
 }

@@ -6,6 +6,7 @@ ghost use Rattle.rule.specs.Look.{named, firstWith, lookOf};
 use crate::Booking;
 use crate::Sight;
 use crate::Stamped;
+use crate::places::first_with;
 use crate::standing::stands;
 use calendar::Validity;
 
@@ -53,21 +54,6 @@ pub(crate) fn matches(s: u32, b: Booking, l: Stamped) -> bool
     false
 }
 
-// The lowest place with a PIL, whether or not its label stands, and 16 where there is none.
-fn first_with(places: [Stamped; 16], pil: u32) -> usize
-    ensures { λ r. ⌜ r ≡ firstWith places pil ⌝ }
-{
-    let mut i: usize = 0;
-    while i < 16 {
-        let l = places[i];
-        if l.pil == pil {
-            return i;
-        }
-        i += 1;
-    }
-    16
-}
-
 // One look at the places from the first with the PIL on, as if the window were open; a label with PRF 0 ends it, since no other can come before it.
 fn look(s: u32, places: [Stamped; 16], b: Booking, from: usize) -> Sight
     requires { ⌜ from ≡ firstWith places (b .pil) ⌝ }
@@ -79,7 +65,8 @@ fn look(s: u32, places: [Stamped; 16], b: Booking, from: usize) -> Sight
         let l = places[i];
         let ours = named(s, b, l);
         if ours & !l.prf {
-            return Sight::Start(i);
+            let place = i as u8;
+            return Sight::Start(place);
         }
         prepared = prepared | ours;
         i += 1;

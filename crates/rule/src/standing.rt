@@ -1,6 +1,5 @@
 // Standing: what a place holds after a label, and for how long.
 ghost use mathlib.Core.Path.{_≡_};
-ghost use lib.ListN.{getD};
 ghost use Rattle.rule.specs.Rule.{noLabel, stands, stamped, renewed, isContinuation, heardAt};
 use crate::Stamped;
 use label::Label;
@@ -20,16 +19,6 @@ pub fn no_label() -> Stamped
         prf: false,
         mi: false,
     }
-}
-
-// Past the last place there is no label.
-pub fn label_at(places: [Stamped; 16], p: usize) -> Stamped
-    ensures { λ r. ⌜ r ≡ getD places p noLabel ⌝ }
-{
-    if p < 16 {
-        return places[p];
-    }
-    no_label()
 }
 
 // The stamp's side has the sum, in 64 bits, so that nothing wraps and no difference falls below 0.

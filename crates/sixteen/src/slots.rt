@@ -135,22 +135,6 @@ pub fn all_next(s: u32, places: [Stamped; 16], timers: [Timer; 16]) -> [Timer; 1
     out
 }
 
-pub fn any_live(timers: [Timer; 16]) -> bool
-    ensures { λ r. ⌜ r ≡ some liveTimer timers ⌝ }
-{
-    let mut i: usize = 0;
-    while i < 16 {
-        let t = timers[i];
-        let c = t.copy;
-        let live = is_live(c);
-        if live {
-            return true;
-        }
-        i += 1;
-    }
-    false
-}
-
 // 'The count of live timers.'
 pub fn count_live(timers: [Timer; 16]) -> u32
     ensures { λ r. ⌜ r ≡ count liveTimer timers ⌝ }
@@ -165,4 +149,11 @@ pub fn count_live(timers: [Timer; 16]) -> u32
         i += 1;
     }
     n
+}
+
+pub fn any_live(timers: [Timer; 16]) -> bool
+    ensures { λ r. ⌜ r ≡ some liveTimer timers ⌝ }
+{
+    let n = count_live(timers);
+    0 < n
 }

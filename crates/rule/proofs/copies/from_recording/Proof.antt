@@ -1,8 +1,9 @@
--- Each exit is a case of the definition.
-use mathlib.Core.Bool.{true}
-use mathlib.Core.Path.{_≡_}
-use Rattle.rule.specs.Rule.{recordingAt, fromRecording}
-use Rattle.rule.proofs.Steps.{moves-not-live}
+-- Each exit is a case of the definition: whether the label there still matches comes first, and says that the window is open.
+use mathlib.Core.Bool.{true, false}
+use mathlib.Core.Path.{_≡_, refl, sym, _∙_}
+use lib.ListN.{getD}
+use Rattle.rule.specs.Rule.{noLabel, endedAt, matches, recordingAt}
+use Rattle.rule.proofs.Steps.{moves-not-live, live-over, recording-stays, recording-leaves}
 use borrow.Author.Needs.{needs}
 use Rattle.rule.proofs.copies.from_recording.Statement.{statement}
 use Rattle.rule.proofs.copies.from_recording.Tie as tie
@@ -14,11 +15,22 @@ matches-requires : tie.Need-matches-requires
 matches-requires c κs = search needs
 
 returns : tie.Need-returns
-unfolding fromRecording recordingAt
+unfolding recordingAt
 returns c =
-    let b = c .before in
-    let still : b .matches .result ≡ true = c .if1 .taken in
-    rw (← b .before .label-at .ensures, ← b .matches .ensures, still)
+    let m = c .before in
+    let a = m .before .before .args in
+    let there = m .before .label-at .ensures in
+    let still : matches (a .s) (a .b) (getD (a .places) (a .p) noLabel) ≡ true = rw there at (sym (m .matches .ensures) ∙ c .if1 .taken) in
+    rw (recording-stays (a .s) (a .places) (a .b) (a .p) (a .mi) still, there)
+
+ended-at-requires : tie.Need-ended-at-requires
+ended-at-requires c κs = search needs
+
+returns-2 : tie.Need-returns-2
+returns-2 c =
+    let a = c .before .before .before .before .before .args in
+    let over : endedAt (a .s) (a .b) ≡ true = sym (c .before .ended-at .ensures) ∙ c .if2 .taken in
+    sym (live-over (a .s) (a .places) (a .b) _ refl over)
 
 sight-of-requires : tie.Need-sight-of-requires
 sight-of-requires c κs = search needs
@@ -26,25 +38,32 @@ sight-of-requires c κs = search needs
 not-live-requires : tie.Need-not-live-requires
 not-live-requires c κs = search needs
 
-returns-2 : tie.Need-returns-2
-unfolding fromRecording
-returns-2 c =
+returns-3 : tie.Need-returns-3
+returns-3 c =
     let v = c .before .before in
-    let b = v .before .before in
-    let remembered : b .before .before .args .mi ≡ true = c .before .if2 .taken in
-    rw (← b .before .label-at .ensures, ← b .matches .ensures, v .before .if1 .left, ← v .sight-of .ensures, remembered, moves-not-live)
-    (c .not-live .ensures)
+    let o = v .before .before in
+    let m = o .before .before in
+    let a = m .before .before .args in
+    let gone : matches (a .s) (a .b) (getD (a .places) (a .p) noLabel) ≡ false =
+    rw (m .before .label-at .ensures) at (sym (m .matches .ensures) ∙ o .before .if1 .left) in
+    let lasts : endedAt (a .s) (a .b) ≡ false = sym (o .ended-at .ensures) ∙ v .before .if2 .left in
+    let remembered : a .mi ≡ true = c .before .if3 .taken in
+    rw (recording-leaves (a .s) (a .places) (a .b) (a .p) (a .mi) gone lasts, remembered, ← v .sight-of .ensures, moves-not-live) (c .not-live .ensures)
 
 moves-or-requires : tie.Need-moves-or-requires
 moves-or-requires c κs = search needs
 
-returns-3 : tie.Need-returns-3
-unfolding fromRecording
-returns-3 c =
+returns-4 : tie.Need-returns-4
+returns-4 c =
     let v = c .before .before in
-    let b = v .before .before in
-    rw (← b .before .label-at .ensures, ← b .matches .ensures, v .before .if1 .left, ← v .sight-of .ensures, c .before .if2 .left)
-    (c .moves-or .ensures)
+    let o = v .before .before in
+    let m = o .before .before in
+    let a = m .before .before .args in
+    let gone : matches (a .s) (a .b) (getD (a .places) (a .p) noLabel) ≡ false =
+    rw (m .before .label-at .ensures) at (sym (m .matches .ensures) ∙ o .before .if1 .left) in
+    let lasts : endedAt (a .s) (a .b) ≡ false = sym (o .ended-at .ensures) ∙ v .before .if2 .left in
+    let remembered : a .mi ≡ false = c .before .if3 .left in
+    rw (recording-leaves (a .s) (a .places) (a .b) (a .p) (a .mi) gone lasts, remembered, ← v .sight-of .ensures) (c .moves-or .ensures)
 
 pub from-recording-spec : {M : Type 1} → statement M
 from-recording-spec =
@@ -53,8 +72,10 @@ from-recording-spec =
     label-at-requires
     matches-requires
     returns
+    ended-at-requires
+    returns-2
     sight-of-requires
     not-live-requires
-    returns-2
+    returns-3
     moves-or-requires
-    returns-3)
+    returns-4)

@@ -23,17 +23,11 @@ from-not-live-requires-2 c κs = search needs
 enum-known-c : tie.Need-enum-known-c
 enum-known-c c = search needs
 
-ended-at-requires : tie.Need-ended-at-requires
-ended-at-requires c κs = search needs
-
 from-recording-requires : tie.Need-from-recording-requires
 from-recording-requires c κs = search needs
 
 enum-known-c-2 : tie.Need-enum-known-c-2
 enum-known-c-2 c = search needs
-
-ended-at-requires-2 : tie.Need-ended-at-requires-2
-ended-at-requires-2 c κs = search needs
 
 from-running-on-requires : tie.Need-from-running-on-requires
 from-running-on-requires c κs = search needs
@@ -49,24 +43,10 @@ returns-3 : tie.Need-returns-3
 returns-3 c = rw (c .before .enum-told3 .given .1, next-prepared) (c .from-not-live2 .ensures)
 
 returns-4 : tie.Need-returns-4
-unfolding nextCopy
-returns-4 c = rw (c .before .before .before .c .given .1, ← c .before .ended-at .ensures, c .if1 .taken)
+returns-4 c = rw (c .before .before .c .given .1) (c .from-recording .ensures)
 
 returns-5 : tie.Need-returns-5
-unfolding nextCopy
-returns-5 c =
-    let b = c .before .before in
-    rw (b .before .before .c .given .1, ← b .ended-at .ensures, c .before .if1 .left) (c .from-recording .ensures)
-
-returns-6 : tie.Need-returns-6
-unfolding nextCopy
-returns-6 c = rw (c .before .before .before .c2 .given .1, ← c .before .ended-at2 .ensures, c .if2 .taken)
-
-returns-7 : tie.Need-returns-7
-unfolding nextCopy
-returns-7 c =
-    let b = c .before .before in
-    rw (b .before .before .c2 .given .1, ← b .ended-at2 .ensures, c .before .if2 .left) (c .from-running-on .ensures)
+returns-5 c = rw (c .before .before .c2 .given .1) (c .from-running-on .ensures)
 
 pub next-copy-spec : {M : Type 1} → statement M
 next-copy-spec =
@@ -78,15 +58,11 @@ next-copy-spec =
     enum-told-3
     from-not-live-requires-2
     enum-known-c
-    ended-at-requires
     from-recording-requires
     enum-known-c-2
-    ended-at-requires-2
     from-running-on-requires
     returns
     returns-2
     returns-3
     returns-4
-    returns-5
-    returns-6
-    returns-7)
+    returns-5)

@@ -1,5 +1,5 @@
 -- The loop's invariant: what the whole look sees is what it sees from place i on, where `prepared` says whether PRF 1 was seen before.
-use Prim.Native.Nat.{_≤_, _-_}
+use Prim.Native.Nat.{_-_}
 use mathlib.Core.Path.{_≡_, sym, _∙_}
 use lib.ListN.{length}
 use borrow.Author.Needs.{needs}
@@ -25,6 +25,9 @@ array-copy-out-l c = search needs
 
 named-requires : tie.Need-named-requires Inv-loop μ-loop
 named-requires c κs = search needs
+
+cast-place : tie.Need-cast-place Inv-loop μ-loop
+cast-place c = search needs
 
 returns : tie.Need-returns Inv-loop μ-loop
 returns c =
@@ -69,6 +72,7 @@ look-spec =
     mul-l
     array-copy-out-l
     named-requires
+    cast-place
     returns
     add-i
     loop-less

@@ -2,10 +2,10 @@
 use Prim.Native.Nat.{_-_}
 use mathlib.Core.Bool.{not}
 use mathlib.Core.Path.{refl, ap}
-use borrow.Author.Needs.{needs}
 use borrow.Author.Tests.{lt-leb}
+use Rattle.rule.proofs.Search.{NotBefore, hit, miss, none}
 use Rattle.sixteen.specs.Sixteen.{active}
-use Rattle.sixteen.proofs.First.{NotBefore, hit, miss, none}
+use borrow.Author.Needs.{needs}
 use Rattle.sixteen.proofs.slots.room.Statement.{statement}
 use Rattle.sixteen.proofs.slots.room.Tie as tie
 
@@ -15,34 +15,14 @@ Inv-loop s timers i₀ i = NotBefore (λ t. not (active s t)) timers i
 abbrev μ-loop : tie.MeasureT-loop
 μ-loop s timers i₀ i = 16 - i
 
-loop-holds : tie.Need-loop-holds Inv-loop μ-loop
-loop-holds c = (search needs, search needs, refl)
-
-mul-t : tie.Need-mul-t Inv-loop μ-loop
-mul-t c = search needs
-
-array-copy-out-t : tie.Need-array-copy-out-t Inv-loop μ-loop
-array-copy-out-t c = search needs
-
-active-requires : tie.Need-active-requires Inv-loop μ-loop
-active-requires c κs = search needs
-
 returns : tie.Need-returns Inv-loop μ-loop
 returns c =
     let b = c .before .before .before .before in
     let e = hit _ _ _ (b .loop .inv) (search needs) (ap not (c .before .active .ensures)) (c .if1 .taken) in
     rw e (refl, lt-leb 16 (b .loop .i) (search needs))
 
-add-i : tie.Need-add-i Inv-loop μ-loop
-add-i c = search needs
-
-loop-less : tie.Need-loop-less Inv-loop μ-loop
-loop-less c = search needs
-
 loop-again : tie.Need-loop-again Inv-loop μ-loop
-loop-again c =
-    let b = c .before .before .before .before in
-    miss _ _ _ (b .loop .inv) (search needs) (ap not (c .before .active .ensures)) (c .if1 .left)
+loop-again c = miss _ _ _ (c .before .before .before .before .loop .inv) (search needs) (ap not (c .before .active .ensures)) (c .if1 .left)
 
 returns-2 : tie.Need-returns-2 Inv-loop μ-loop
 returns-2 c = let e = none _ _ (c .before .loop .inv) (search needs) in rw e (refl, refl)
@@ -53,12 +33,12 @@ room-spec =
     (tie.spec
     Inv-loop
     μ-loop
-    loop-holds
-    mul-t
-    array-copy-out-t
-    active-requires
+    (λ c. (search needs, search needs, refl))
+    (λ c. search needs)
+    (λ c. search needs)
+    (λ c κs. search needs)
     returns
-    add-i
-    loop-less
+    (λ c. search needs)
+    (λ c. search needs)
     loop-again
     returns-2)

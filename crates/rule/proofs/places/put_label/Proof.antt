@@ -2,8 +2,8 @@
 use mathlib.Core.Path.{sym}
 use lib.Seq.{set-out}
 use borrow.Author.Needs.{needs}
-use Rattle.sixteen.proofs.places.put_label.Statement.{statement}
-use Rattle.sixteen.proofs.places.put_label.Tie as tie
+use Rattle.rule.proofs.places.put_label.Statement.{statement}
+use Rattle.rule.proofs.places.put_label.Tie as tie
 
 mul-out : tie.Need-mul-out
 mul-out c = search needs

@@ -3,8 +3,8 @@ use mathlib.Core.Path.{sym, _∙_}
 use lib.ListN.{List·getD-eq-default}
 use Rattle.rule.specs.Rule.{noLabel}
 use borrow.Author.Needs.{needs}
-use Rattle.rule.proofs.standing.label_at.Statement.{statement}
-use Rattle.rule.proofs.standing.label_at.Tie as tie
+use Rattle.rule.proofs.places.label_at.Statement.{statement}
+use Rattle.rule.proofs.places.label_at.Tie as tie
 
 mul-result : tie.Need-mul-result
 mul-result c = search needs
