@@ -101,7 +101,8 @@ laws = record {
   continuation = unfold serviceOf in refl;
   no-specific-value = unfold serviceOf in refl;
   programme = programme;
-  read-unique = λ p. numbered readingAnswer reading reading-back (readingOf p);
+  read-unique =
+      λ p. paired (λ r. readingAnswer r ≡ readingOf p) (λ q. q ≡ p) (numbered readingAnswer reading reading-back (readingOf p)) (equation p);
   refusal-number-unique = λ r. equation (refusalNumber r);
   write-unique =
       λ l p.

@@ -10,6 +10,7 @@ use Rattle.answer.specs.Lists.{member}
 use Rattle.hamming.specs.Byte.{good, distance}
 use Rattle.label.specs.declared.Label.{Label}
 use Rattle.label.specs.declared.Refusal.{Refusal}
+use Rattle.label.specs.declared.Reading.{Reading}
 use Rattle.label.specs.declared.Written.{Written}
 use Rattle.label.specs.declared.pil.Service.the-variants.{Programme, TimerControl, InhibitTerminate, Interruption, Continuation, NoSpecificValue}
 use Rattle.label.specs.Packet.{refusalNumber, readingAnswer, readingOf, writtenNumber, writingOf, put, valueAt, hammingBytes}
@@ -71,7 +72,7 @@ pub record Laws : Type 0 where
   pub programme : (pil : ℕ) → (pil ≡ 0b00000_1111_11111_111111 → ⊥) → (pil ≡ 0b00000_1111_11110_111111 → ⊥) →
       (pil ≡ 0b00000_1111_11101_111111 → ⊥) → (pil ≡ 0b00000_1111_11100_111111 → ⊥) → (pil ≡ 0b11111_1111_11111_111111 → ⊥) → serviceOf pil ≡ Programme
   -- each call's promise allows one outcome
-  pub read-unique : (p : List ℕ) → Unique (λ r. readingAnswer r ≡ readingOf p)
+  pub read-unique : (p : List ℕ) → Unique {A = Reading × List ℕ} (λ o. (readingAnswer (o .0) ≡ readingOf p) × (o .1 ≡ p))
   pub refusal-number-unique : (r : Refusal) → Unique (λ n. n ≡ refusalNumber r)
   pub write-unique : (l : Label) (p : List ℕ) →
       Unique {A = Written × List ℕ} (λ o. (writtenNumber (o .0) ≡ number (writingOf l p)) × (o .1 ≡ after p (writingOf l p)))
