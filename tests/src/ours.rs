@@ -59,6 +59,9 @@ pub fn read(packets: &[Vec<u8>]) -> Vec<Result<Label, u8>> {
     lend("read", packets.iter().map(|packet| (&packet[..], &out[..]))).into_iter().map(label).collect()
 }
 
+/// The answer where the thirteen bytes of a label are not thirteen: no number of the paper.
+pub const NOT_THIRTEEN: u8 = 255;
+
 /// The same of one packet, into lent bytes of any length.
 pub fn read_into(packet: &[u8], outs: &[Vec<u8>]) -> Vec<(u8, Vec<u8>)> {
     lend("read", outs.iter().map(|out| (packet, &out[..])))
@@ -68,6 +71,11 @@ pub fn read_into(packet: &[u8], outs: &[Vec<u8>]) -> Vec<(u8, Vec<u8>)> {
 pub fn write(labels: &[(Label, Vec<u8>)]) -> Vec<(u8, Vec<u8>)> {
     let fields: Vec<[u8; 13]> = labels.iter().map(|(label, _)| label.to_fields()).collect();
     lend("write", fields.iter().zip(labels).map(|(fields, (_, buffer))| (&fields[..], &buffer[..])))
+}
+
+/// The same of a label in bytes of any length, into one packet.
+pub fn write_from(fields: &[Vec<u8>], packet: &[u8]) -> Vec<(u8, Vec<u8>)> {
+    lend("write", fields.iter().map(|fields| (&fields[..], packet)))
 }
 
 /// 0 programme, 1 timer-control, 2 RI/T, 3 interruption, 4 continuation, 5 no specific value.

@@ -1,7 +1,7 @@
 -- What is claimed of the words that every layer uses. Proved in proofs/Proved.antt.
 use Prim.Native.Nat.{ℕ}
 use mathlib.Core.Path.{_≡_}
-use mathlib.Core.List.{List, [], _∷_}
+use mathlib.Core.List.{[], _∷_}
 use Rattle.answer.specs.Answer.{Unique}
 use Rattle.answer.specs.Bytes.{numberOf}
 

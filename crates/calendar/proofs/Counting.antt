@@ -13,7 +13,7 @@ use Rattle.answer.proofs.All.{both, both-left, both-right, below, each}
 use Rattle.answer.proofs.Cases.{by-test, both-true}
 use Rattle.calendar.specs.Calendar.{leap, monthLengths, daysIn, dayExists, sumBelow, daysBeforeMonth, daysOfYear, daysBeforeYear, dayNumber}
 
-abbrev pub leapDay : Bool → ℕ
+abbrev leapDay : Bool → ℕ
 leapDay t = cond t 1 0
 
 pub leapDay-le : (t : Bool) → leapDay t ≤ 1
@@ -59,7 +59,7 @@ daysIn-le year zero h = omega arith
 daysIn-le year (suc m) h = omega (arith, daysIn-usual year (suc m) (omega arith) h)
 
 -- the code's table
-abbrev pub sums : List ℕ
+abbrev sums : List ℕ
 sums = 0 ∷ 0 ∷ 31 ∷ 59 ∷ 90 ∷ 120 ∷ 151 ∷ 181 ∷ 212 ∷ 243 ∷ 273 ∷ 304 ∷ 334 ∷ []
 
 summed : Bool → ℕ → Bool

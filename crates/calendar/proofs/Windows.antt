@@ -6,7 +6,7 @@ use native.Mathlib.Decide.{decLt}
 use native.Mathlib.Omega.{arith}
 use borrow.Author.Tests.{leb-true, ltb-true, ltb-false, lt-ltb, le-ltb, not-false}
 use lib.Dec.{leb, ltb}
-use Rattle.answer.specs.Answer.{refused, given}
+use Rattle.answer.specs.Answer.{given}
 use Rattle.label.specs.Pil.{twentyBits, dayOf, monthOf, hourOf, minuteOf}
 use Rattle.calendar.specs.Calendar.{dayExists, realIn, dateOf, hours, clockAt, clockEnd, opening, closing, opensAt, closesAt, windowAt, windowIn}
 use Rattle.calendar.specs.Laws.{InWindow, announcedAt}
@@ -43,18 +43,18 @@ cut-at-start pil year e =
     (omega arith, omega arith)
 
 -- whatever the PIL and the year, a window is not empty
-pub opens-lt-closes : (pil year : ℕ) → opensAt pil year < closesAt pil year
+opens-lt-closes : (pil year : ℕ) → opensAt pil year < closesAt pil year
 unfolding opensAt closesAt closing
 opens-lt-closes pil year = omega (arith, opening-le (dateOf pil year) (hourOf pil))
 
-pub realIn-parts : (pil year : ℕ) → realIn pil year ≡ true → (dayExists year (monthOf pil) (dayOf pil) ≡ true) × (hourOf pil ≤ 23) × (minuteOf pil ≤ 59)
+realIn-parts : (pil year : ℕ) → realIn pil year ≡ true → (dayExists year (monthOf pil) (dayOf pil) ≡ true) × (hourOf pil ≤ 23) × (minuteOf pil ≤ 59)
 unfolding realIn
 realIn-parts pil year e =
     let p = both-true _ (leb (minuteOf pil) 59) e in
     let q = both-true _ (leb (hourOf pil) 23) (p .0) in
     (q .0, leb-true (hourOf pil) 23 (q .1), leb-true (minuteOf pil) 59 (p .1))
 
-pub closes-le-end : (pil year : ℕ) → year ≤ 99 → realIn pil year ≡ true → closesAt pil year ≤ clockEnd
+closes-le-end : (pil year : ℕ) → year ≤ 99 → realIn pil year ≡ true → closesAt pil year ≤ clockEnd
 unfolding closesAt closing
 closes-le-end pil year h e = omega (arith, dayNumber-lt year (monthOf pil) (dayOf pil) (realIn-parts pil year e .0), closed-form (suc year))
 
@@ -68,12 +68,12 @@ announced-within pil year e =
     (omega (arith, opening-le (dateOf pil year) (hourOf pil)), omega arith)
 
 -- days that are no neighbours have windows that do not meet
-pub closes-le-opens : (pil year other otherYear : ℕ) → dateOf pil year + 2 ≤ dateOf other otherYear → closesAt pil year ≤ opensAt other otherYear
+closes-le-opens : (pil year other otherYear : ℕ) → dateOf pil year + 2 ≤ dateOf other otherYear → closesAt pil year ≤ opensAt other otherYear
 unfolding opensAt closesAt closing
 closes-le-opens pil year other otherYear h = omega (arith, opening-ge (dateOf other otherYear) (hourOf other))
 
 -- in a later year the same PIL opens after it has closed
-pub closes-le-opens-later : (pil year other : ℕ) → year < other → closesAt pil year ≤ opensAt pil other
+closes-le-opens-later : (pil year other : ℕ) → year < other → closesAt pil year ≤ opensAt pil other
 closes-le-opens-later pil year other h = closes-le-opens pil year pil other (dayNumber-years year other (monthOf pil) (dayOf pil) h)
 
 pub one-year : (pil year other second : ℕ) → InWindow pil year second → InWindow pil other second → year ≡ other

@@ -28,7 +28,7 @@ fn days_in(year: u8, month: u8) -> u8
     MONTH_LENGTHS[month as usize] + leap_day(year, month == 2)
 }
 
-pub fn day_exists(year: u8, month: u8, day: u8) -> bool
+pub(crate) fn day_exists(year: u8, month: u8, day: u8) -> bool
     ensures { λ r. ⌜ r ≡ dayExists year month day ⌝ }
 {
     let last = days_in(year, month);
@@ -53,7 +53,7 @@ fn days_before_year(year: u8) -> u32
     365 * years + (years + 3) / 4
 }
 
-pub fn day_number(year: u8, month: u8, day: u8) -> u32
+pub(crate) fn day_number(year: u8, month: u8, day: u8) -> u32
     ensures { λ r. ⌜ r ≡ dayNumber year month day ⌝ }
 {
     let days = days_before_year(year) + (days_before_month(year, month) as u32) + (day as u32);

@@ -1,5 +1,5 @@
 -- What a byte carries, by tests of all 256 bytes and all 16 values that antt computes.
-use Prim.Native.Nat.{ℕ, zero, suc, _+_, _*_, _/_, _%_, _<_, _≤_}
+use Prim.Native.Nat.{ℕ, _+_, _*_, _/_, _%_, _<_, _≤_}
 use mathlib.Core.Path.{_≡_, refl, sym, ap, _∙_}
 use mathlib.Core.Bool.{Bool, true, false, cond, not}
 use mathlib.Core.List.{List, [], _∷_, map}
@@ -59,7 +59,7 @@ all-near : T (below nearHas 256)
 unfolding nearHas D good distance nearTo nibbleOf
 all-near = tt
 
-pub near-value : (b v : ℕ) → b < 256 → v < 16 → nearTo b v ≡ true → nibbleOf b ≡ Value v
+near-value : (b v : ℕ) → b < 256 → v < 16 → nearTo b v ≡ true → nibbleOf b ≡ Value v
 unfolding nearHas
 near-value b v p q e =
     carries-value v (nibbleOf b)
@@ -141,7 +141,7 @@ two b v p q e =
 abbrev pub own : ℕ → ℕ
 own b = b / 2 % 2 + b / 8 % 2 * 2 + b / 32 % 2 * 4 + b / 128 * 8
 
-abbrev pub flips : List ℕ
+abbrev flips : List ℕ
 flips = 0 ∷ 1 ∷ 2 ∷ 4 ∷ 8 ∷ []
 
 -- the value that is tried at step i
@@ -161,7 +161,7 @@ all-flips : T (below flip-small 5)
 unfolding flip-small
 all-flips = tt
 
-pub tried-small : (b i : ℕ) → b < 256 → i < 5 → tried b i < 16
+tried-small : (b i : ℕ) → b < 256 → i < 5 → tried b i < 16
 unfolding flip-small
 tried-small b i p q = xor-lt 4 (own b) (getD flips i 0) (own-small b p) (ltb→lt _ 16 (each flip-small 5 all-flips i q))
 

@@ -1,8 +1,8 @@
 -- The reader goes by the sixteen nibbles: it looks at no other byte, one wrong bit in each is nothing, two in one are refused.
-use Prim.Native.Nat.{ℕ, suc}
+use Prim.Native.Nat.{ℕ, suc, _≤_}
 use mathlib.Core.Path.{_≡_, refl, sym, ap, ap₂, fun-ext, _∙_}
 use mathlib.Core.Bool.{true, false, _||_, or-true}
-use mathlib.Core.List.{List, _∷_, _++_}
+use mathlib.Core.List.{List, [], _∷_, _++_}
 use native.Mathlib.Omega.{arith}
 use borrow.Author.Tests.{ne-eqb, ltb-true, le-ltb}
 use lib.Dec.{ltb}
@@ -16,7 +16,7 @@ use Rattle.label.specs.Packet.{readerRows, readingOf, labelIn, nibbleAt,
 use Rattle.answer.specs.Lists.{member}
 use Rattle.label.specs.Laws.{AtEach, Good, OneWrong, TwoWrong, damageNumber, sooner}
 use Rattle.answer.proofs.Every.{All, all-map, every, listed, each-listed, unlisted, some-same, none-some, some-one}
-use Rattle.label.proofs.Sooner.{one-more}
+use Rattle.label.proofs.Sooner.{one-more, sooner-le}
 use Rattle.label.proofs.Places.{sentBytes, field-same}
 
 -- ── the sixteen nibbles ────────────────────────────────────────────────────────────────────────────────────────────
@@ -47,6 +47,41 @@ module _ (g b : ℕ) (good : Good g) where
 pub one : (p q : List ℕ) → length p ≡ length q → AtEach (λ i. Good (getD p i 0)) → AtEach (λ i. OneWrong (getD p i 0) (getD q i 0)) →
     readingOf q ≡ readingOf p
 one p q h g w = by-nibbles q p (sym h) (λ i m. one-wrong (getD p i 0) (getD q i 0) (g i m) (w i m))
+
+-- ── a damaged byte ─────────────────────────────────────────────────────────────────────────────────────────────────
+-- the row after k others, with the number n, applies
+refused-by : (p : List ℕ) (k n : ℕ) → readerRows p ≡ take k (readerRows p) ++ ((true, n) ∷ drop (suc k) (readerRows p)) →
+    every (λ row. ltb (row .1) n) (take k (readerRows p)) ≡ true → (m : ℕ) × (m ≤ n) × (readingOf p ≡ refused m)
+unfolding readingOf
+refused-by p k n e b =
+    let a = labelIn p in
+    let rows = take k (readerRows p) in
+    let others = firstOf (rows ++ ((false, n) ∷ [])) a in
+    (sooner others n, sooner-le others n, ap (λ (rows : List Row). firstOf rows a) e ∙ one-more a a n rows (drop (suc k) (readerRows p)) [] b refl)
+
+label-number : (j : ℕ) → member j labelBytes ≡ true → damageNumber j ≡ 6
+label-number j m = let h = ltb-true 2 j (each-listed (ltb 2) labelBytes refl j m) in rw (le-ltb j 2 (omega arith), ne-eqb j 2 (omega arith))
+
+module _ (p : List ℕ) where
+  abbrev Refused : ℕ → Type 0
+  Refused j = damagedAt p j ≡ true → (n : ℕ) × (n ≤ damageNumber j) × (readingOf p ≡ refused n)
+
+  refused-label : (j : ℕ) → member j labelBytes ≡ true → Refused j
+  refused-label j m d = rw (label-number j m) (refused-by p 5 6 (rw (some-one (damagedAt p) labelBytes j m d)) refl)
+
+  refused-damaged : AtEach Refused
+  refused-damaged =
+      listed Refused hammingBytes (
+        λ d. refused-by p 1 2 (rw d) refl,
+        (
+          λ d. let e : (damagedAt p 0 || damagedAt p 1) ≡ true = rw d (or-true (damagedAt p 0)) in refused-by p 1 2 (rw e) refl,
+          (λ d. refused-by p 3 4 (rw d) refl, unlisted labelBytes refused-label),
+        ),
+      )
+
+pub two-refused : (p : List ℕ) (j g : ℕ) → member j hammingBytes ≡ true → Good g → TwoWrong g (getD p j 0) →
+    (n : ℕ) × (n ≤ damageNumber j) × (readingOf p ≡ refused n)
+two-refused p j g m good w = refused-damaged p j m (ap damaged (two-wrong g (getD p j 0) good w))
 
 -- ── one damaged byte ───────────────────────────────────────────────────────────────────────────────────────────────
 -- the row after k others, with the number n, applies to q and not to p, and those before it to both or neither
@@ -82,7 +117,7 @@ module _ (p q : List ℕ) (hp : length p ≡ 42) (hq : length q ≡ 42) (clean :
       let n₀ = a .1 0 refl (omega arith) in
       let n₁ = a .1 1 refl (omega arith) in
       let n₂ = a .1 2 refl (omega arith) in
-      rw (le-ltb j 2 (omega arith), ne-eqb j 2 (omega arith))
+      rw (label-number j m)
       (turned p q 5 6 (rw (hq, hp, n₀, n₁, n₂, some-one (damagedAt q) labelBytes j m (a .0))) (rw (none-some (damagedAt p) labelBytes (clean .1 .1 .1))) refl refl)
 
   told : AtEach Told

@@ -26,7 +26,7 @@ of-digits zero m n = omega arith
 of-digits (suc k) m n = of-digits k (m * 2 + n / 2 ^ k % 2) n ∙ digit k m n
 
 -- the bits of n from its bit j on, k of them
-abbrev pub bitsFrom : ℕ → ℕ → ℕ → List ℕ
+abbrev bitsFrom : ℕ → ℕ → ℕ → List ℕ
 bitsFrom j zero n = []
 bitsFrom j (suc k) n = n / 2 ^ (j + k) % 2 ∷ bitsFrom j k n
 

@@ -30,7 +30,7 @@ abbrev dataBits : List ℕ
 dataBits = 1 ∷ 2 ∷ 3 ∷ 4 ∷ []
 
 -- a value is that of its data bits
-pub four-of : (v : ℕ) → v < 16 → four (D 1 v) (D 2 v) (D 3 v) (D 4 v) ≡ v
+four-of : (v : ℕ) → v < 16 → four (D 1 v) (D 2 v) (D 3 v) (D 4 v) ≡ v
 four-of v h = sym (low-four v ∙ four-number (D 4 v) (D 3 v) (D 2 v) (D 1 v)) ∙ mod-eq-of-lt h
 
 -- ── fields and positions ───────────────────────────────────────────────────────────────────────────────────────────

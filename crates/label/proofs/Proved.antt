@@ -6,7 +6,7 @@ use native.Mathlib.Omega.{arith}
 use native.Mathlib.Nat.{div-add-mod', div-div-eq-div-mul, mod-eq-of-lt}
 use borrow.Author.Tests.{eqb-true, ltb-true, ne-eqb}
 use lib.Dec.{eqb}
-use Rattle.answer.specs.Answer.{Answer, refused, given, after, number, Unique}
+use Rattle.answer.specs.Answer.{Answer, refused, given, after, number}
 use Rattle.answer.proofs.Answers.{equation, numbered, paired}
 use Rattle.label.specs.declared.Label.{Label}
 use Rattle.label.specs.declared.Refusal.{Refusal}
@@ -20,7 +20,7 @@ use Rattle.label.specs.Packet.{refusalNumber, readingAnswer, readingOf, 
 use Rattle.label.specs.Pil.{twentyBits, dayOf, monthOf, hourOf, minuteOf, partsOf, serviceAt, noSpecificValue, serviceOf}
 use Rattle.label.specs.Laws.{Laws}
 use Rattle.label.proofs.Round.{back, right, kept}
-use Rattle.label.proofs.Damage.{only, one, two}
+use Rattle.label.proofs.Damage.{only, one, two, two-refused}
 
 -- ── a PIL is the number of its parts ───────────────────────────────────────────────────────────────────────────────
 whole : (pil x y day month hour minute : ℕ) → x * 64 + minute ≡ pil → y * 32 + hour ≡ x → day * 16 + month ≡ y → pil < 1048576 →
@@ -94,18 +94,21 @@ laws = record {
   only = only;
   one = one;
   two = two;
+  two-refused = two-refused;
   timer-control = unfold serviceOf in refl;
   inhibit-terminate = unfold serviceOf in refl;
   interruption = unfold serviceOf in refl;
   continuation = unfold serviceOf in refl;
   no-specific-value = unfold serviceOf in refl;
   programme = programme;
-  read-unique = λ p. numbered readingAnswer reading reading-back (readingOf p);
-  number-unique = λ r. equation (refusalNumber r);
+  read-unique =
+      λ p. paired (λ r. readingAnswer r ≡ readingOf p) (λ q. q ≡ p) (numbered readingAnswer reading reading-back (readingOf p)) (equation p);
+  refusal-number-unique = λ r. equation (refusalNumber r);
   write-unique =
       λ l p.
       paired (λ w. writtenNumber w ≡ number (writingOf l p)) (λ q. q ≡ after p (writingOf l p)) (numbered writtenNumber outcome outcome-back (number (writingOf l p)))
       (equation (after p (writingOf l p)));
+  written-number-unique = λ w. equation (writtenNumber w);
   parts-unique = λ pil. equation (partsOf pil);
   service-unique = λ pil. equation (serviceOf pil);
 }

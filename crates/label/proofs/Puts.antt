@@ -9,9 +9,8 @@ use lib.Dec.{eqb}
 use lib.ListN.{length, getD, set, length-set}
 use lib.Seq.{getD-set-same, getD-set-other, lt-length-set}
 use Rattle.answer.proofs.Cases.{both-false}
-use Rattle.answer.specs.Lists.{some}
+use Rattle.answer.specs.Lists.{some, member}
 use Rattle.label.specs.Packet.{put}
-use Rattle.answer.specs.Lists.{member}
 use Rattle.answer.proofs.Every.{All, no-way, some-more}
 
 -- ── what stands there ──────────────────────────────────────────────────────────────────────────────────────────────

@@ -14,9 +14,8 @@ use Rattle.hamming.proofs.Bytes as bytes
 use Rattle.answer.proofs.Cases.{both-true, both-false}
 use Rattle.label.specs.declared.Label.{Label}
 use Rattle.label.specs.Layout.{Field, designation, fields, positions, fieldOf, labelBy, fieldBy}
-use Rattle.answer.specs.Lists.{some}
+use Rattle.answer.specs.Lists.{some, member}
 use Rattle.label.specs.Packet.{readerRows, readingOf, labelIn, writerRows, writingOf, put, byteFor, valueFor, nibbleAt, valueAt, valueOf, damagedAt, damaged, format2, unfit, tooWide, hammingBytes, labelBytes}
-use Rattle.answer.specs.Lists.{member}
 use Rattle.answer.proofs.Every.{no-way, All, all-of, all-map, listed, each-listed, unlisted, some-none, none-some, Passed, passed, accepted}
 use Rattle.label.proofs.Puts.{put-length, put-in, put-other, put-same}
 use Rattle.label.proofs.Places.{fielded, sentBytes, field-same, designation-of, value-small, field-back, field-fits, sent-again}

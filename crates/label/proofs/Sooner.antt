@@ -1,13 +1,13 @@
 -- The answer where one more row of the table of refusals applies.
-use Prim.Native.Nat.{ℕ}
+use Prim.Native.Nat.{ℕ, _≤_}
 use mathlib.Core.Path.{_≡_, refl, sym, ap}
 use mathlib.Core.Bool.{Bool, true, false, cond}
 use mathlib.Core.List.{List, [], _∷_, _++_}
 use native.Mathlib.Omega.{arith}
 use borrow.Author.Tests.{ltb-true, le-ltb}
 use lib.Dec.{ltb}
-use Rattle.answer.specs.Answer.{refused, Row, firstOf}
-use Rattle.answer.proofs.Cases.{both-true}
+use Rattle.answer.specs.Answer.{Answer, refused, given, Row, firstOf}
+use Rattle.answer.proofs.Cases.{by-test, both-true}
 use Rattle.answer.proofs.Every.{every}
 use Rattle.label.specs.Laws.{sooner}
 
@@ -31,3 +31,8 @@ module _ {A : Type 0} (a b : A) (n : ℕ) where
           ≡ refused (sooner (cond t (refused (row .1)) (firstOf (before ++ ((false, n) ∷ after)) a)) n)
       go true k = rw ((both-true (ltb (row .1) n) _ e) .0)
       go false k = k
+
+-- the first of two that apply is no later than the second
+pub sooner-le : {A : Type 0} (a : Answer A) (n : ℕ) → sooner a n ≤ n
+sooner-le (refused m) n = by-test (ltb m n) (λ e. let l = ltb-true m n e in rw e (omega arith)) (λ e. rw e (omega arith))
+sooner-le (given a) n = omega arith

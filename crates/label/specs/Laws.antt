@@ -10,6 +10,7 @@ use Rattle.answer.specs.Lists.{member}
 use Rattle.hamming.specs.Byte.{good, distance}
 use Rattle.label.specs.declared.Label.{Label}
 use Rattle.label.specs.declared.Refusal.{Refusal}
+use Rattle.label.specs.declared.Reading.{Reading}
 use Rattle.label.specs.declared.Written.{Written}
 use Rattle.label.specs.declared.pil.Service.the-variants.{Programme, TimerControl, InhibitTerminate, Interruption, Continuation, NoSpecificValue}
 use Rattle.label.specs.Packet.{refusalNumber, readingAnswer, readingOf, writtenNumber, writingOf, put, valueAt, hammingBytes}
@@ -58,6 +59,9 @@ pub record Laws : Type 0 where
   pub two : (p q : List ℕ) (j : ℕ) → length p ≡ 42 → length q ≡ 42 → AtEach (λ i. Good (getD p i 0)) →
       member j hammingBytes ≡ true → TwoWrong (getD p j 0) (getD q j 0) → AtEach (λ i. (i ≡ j → ⊥) → OneWrong (getD p i 0) (getD q i 0)) →
       readingOf q ≡ refused (sooner (readingOf p) (damageNumber j))
+  -- two wrong bits in one of them are refused whatever the other bytes are, and however many: with that byte's number or an earlier one
+  pub two-refused : (p : List ℕ) (j g : ℕ) → member j hammingBytes ≡ true → Good g → TwoWrong g (getD p j 0) →
+      (n : ℕ) × (n ≤ damageNumber j) × (readingOf p ≡ refused n)
   -- the service codes are those of clause 6.2 e), bit by bit
   pub timer-control : serviceOf 0b00000_1111_11111_111111 ≡ TimerControl
   pub inhibit-terminate : serviceOf 0b00000_1111_11110_111111 ≡ InhibitTerminate
@@ -68,9 +72,10 @@ pub record Laws : Type 0 where
   pub programme : (pil : ℕ) → (pil ≡ 0b00000_1111_11111_111111 → ⊥) → (pil ≡ 0b00000_1111_11110_111111 → ⊥) →
       (pil ≡ 0b00000_1111_11101_111111 → ⊥) → (pil ≡ 0b00000_1111_11100_111111 → ⊥) → (pil ≡ 0b11111_1111_11111_111111 → ⊥) → serviceOf pil ≡ Programme
   -- each call's promise allows one outcome
-  pub read-unique : (p : List ℕ) → Unique (λ r. readingAnswer r ≡ readingOf p)
-  pub number-unique : (r : Refusal) → Unique (λ n. n ≡ refusalNumber r)
+  pub read-unique : (p : List ℕ) → Unique {A = Reading × List ℕ} (λ o. (readingAnswer (o .0) ≡ readingOf p) × (o .1 ≡ p))
+  pub refusal-number-unique : (r : Refusal) → Unique (λ n. n ≡ refusalNumber r)
   pub write-unique : (l : Label) (p : List ℕ) →
       Unique {A = Written × List ℕ} (λ o. (writtenNumber (o .0) ≡ number (writingOf l p)) × (o .1 ≡ after p (writingOf l p)))
+  pub written-number-unique : (w : Written) → Unique (λ n. n ≡ writtenNumber w)
   pub parts-unique : (pil : ℕ) → Unique (λ r. r ≡ partsOf pil)
   pub service-unique : (pil : ℕ) → Unique (λ r. r ≡ serviceOf pil)

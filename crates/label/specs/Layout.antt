@@ -1,6 +1,6 @@
 -- Where each bit of a label stands: tables 7 and 8 of EN 300 231, clause 8.2.1. Byte 13 there is byte 9 here (document 01, 'Packet layout').
 use Prim.Native.Nat.{ℕ, zero, suc, _+_, _*_, _/_, _%_, _^_}
-use mathlib.Core.Bool.{Bool, cond, _&&_}
+use mathlib.Core.Bool.{cond, _&&_}
 use mathlib.Core.List.{List, [], _∷_, _++_, map}
 use lib.Dec.{eqb}
 use lib.ListN.{length}

@@ -109,6 +109,7 @@ put f (i ∷ is) p = put f is (set p i (f i))
 unfoldable pub writingOf : Label → List ℕ → Answer (List ℕ)
 writingOf l p = firstOf (writerRows l p) (put (byteFor l) hammingBytes p)
 
+-- the paper's numbers, and 0 for what is written
 abbrev pub writtenNumber : Written → ℕ
 writtenNumber WrongLength = 1
 writtenNumber TooWide = 16

@@ -1,4 +1,4 @@
--- The PIL (document 01, 'PIL'; EN 300 231, clause 6.2 e) and f)).
+-- The PIL (document 01, 'PIL'; EN 300 231, clause 6.2 e)).
 use Prim.Native.Nat.{ℕ, _/_, _%_, _^_}
 use mathlib.Core.Bool.{Bool, cond, _&&_}
 use lib.Dec.{ltb, eqb}

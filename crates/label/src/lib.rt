@@ -2,7 +2,7 @@
 ghost use mathlib.Core.Path.{_≡_};
 ghost use mathlib.Core.Bool.{true};
 ghost use Rattle.label.specs.Laws.{Laws};
-ghost use Rattle.label.specs.Packet.{refusalNumber};
+ghost use Rattle.label.specs.Packet.{refusalNumber, writtenNumber};
 
 pub mod pil; // the parts of a PIL, and the service codes
 pub mod reader; // from bytes to a label
@@ -57,6 +57,19 @@ pub enum Written {
     WrongLength,
     TooWide,
     Done,
+}
+
+impl Written {
+    // The paper's number, or 0.
+    pub fn number(self) -> u8
+        ensures { λ n. ⌜ n ≡ writtenNumber self ⌝ }
+    {
+        match self {
+            Written::WrongLength => 1,
+            Written::TooWide => 16,
+            Written::Done => 0,
+        }
+    }
 }
 
 // The laws of packet and PIL, as a promise of the crate.

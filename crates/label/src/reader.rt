@@ -107,6 +107,7 @@ fn label_of(designation: u8, number: u64) -> Label
 // The label of a packet, or the first refusal that applies.
 pub fn read(bytes: &[u8]) -> Reading
     ensures { λ r. ⌜ readingAnswer r ≡ readingOf (now (bytes .entry)) ⌝ }
+    ensures { λ r. ⌜ now (bytes .exit) ≡ now (bytes .entry) ⌝ }
 {
     if bytes.len() != 42 {
         return Reading::Refused(Refusal::Length);

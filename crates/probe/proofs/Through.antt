@@ -1,14 +1,13 @@
 -- What is answered through thirteen bytes: a refusal where they are not thirteen, else the answer of the call below.
 use Prim.Native.Nat.{ℕ}
-use mathlib.Core.Path.{_≡_, sym, ap, _∙_}
+use mathlib.Core.Path.{_≡_, ap, _∙_}
 use mathlib.Core.List.{List}
 use lib.ListN.{length}
-use Rattle.answer.specs.Answer.{Answer, refused, given, number, after, andThen}
+use Rattle.answer.specs.Answer.{Answer, refused, number, after, andThen}
 use Rattle.label.specs.declared.Label.{Label}
-use Rattle.label.specs.declared.Written.{Written}
-use Rattle.label.specs.Packet.{readingOf, writtenNumber, writingOf}
+use Rattle.label.specs.Packet.{readingOf, writingOf}
 use Rattle.label.proofs.Rows.{other-length, that-length}
-use Rattle.probe.specs.Plain.{thirteen, fieldsGiven, labelOf, readInto, writeFrom}
+use Rattle.probe.specs.Plain.{notThirteen, thirteen, fieldsGiven, labelOf, readInto, writeFrom}
 
 -- an answer that is another, as its number and as what it leaves of a buffer
 pub as-both : (was : List ℕ) {a b : Answer (List ℕ)} → a ≡ b → (number a ≡ number b) × (after was a ≡ after was b)
@@ -17,10 +16,10 @@ as-both was e = (ap number e, ap (after was) e)
 through : (f : List ℕ) (g : List ℕ → Answer (List ℕ)) → length f ≡ 13 → g f ≡ andThen (thirteen f) g
 through f g h = rw (that-length f h)
 
-stopped : (f : List ℕ) (g : List ℕ → Answer (List ℕ)) → (length f ≡ 13 → ⊥) → refused 1 ≡ andThen (thirteen f) g
+stopped : (f : List ℕ) (g : List ℕ → Answer (List ℕ)) → (length f ≡ 13 → ⊥) → refused notThirteen ≡ andThen (thirteen f) g
 stopped f g h = rw (other-length f h)
 
-pub read-stopped : (p out : List ℕ) → (length out ≡ 13 → ⊥) → refused 1 ≡ readInto p out
+pub read-stopped : (p out : List ℕ) → (length out ≡ 13 → ⊥) → refused notThirteen ≡ readInto p out
 unfolding readInto
 read-stopped p out h = stopped out (λ o. fieldsGiven (readingOf p)) h
 
@@ -28,7 +27,7 @@ pub read-through : (p out : List ℕ) (a : Answer Label) → length out ≡ 13 �
 unfolding readInto
 read-through p out a h e = ap fieldsGiven e ∙ through out (λ o. fieldsGiven (readingOf p)) h
 
-pub write-stopped : (f p : List ℕ) → (length f ≡ 13 → ⊥) → refused 1 ≡ writeFrom f p
+pub write-stopped : (f p : List ℕ) → (length f ≡ 13 → ⊥) → refused notThirteen ≡ writeFrom f p
 unfolding writeFrom
 write-stopped f p h = stopped f (λ g. writingOf (labelOf g) p) h
 
@@ -36,10 +35,7 @@ write-through : (f p : List ℕ) → length f ≡ 13 → writingOf (labelOf f) p
 unfolding writeFrom
 write-through f p h = through f (λ g. writingOf (labelOf g) p) h
 
--- what the writer left of a packet and answered by v, it did for the thirteen bytes
-pub written : (f p : List ℕ) {last : List ℕ} {l : Label} {w v : Written} → length f ≡ 13 → l ≡ labelOf f → w ≡ v →
-    (writtenNumber w ≡ number (writingOf l p)) × (last ≡ after p (writingOf l p)) →
-    (writtenNumber v ≡ number (writeFrom f p)) × (last ≡ after p (writeFrom f p))
-written f p h e told ensures =
-    let t = as-both p (ap (λ (m : Label). writingOf m p) e ∙ write-through f p h) in
-    (sym (ap writtenNumber told) ∙ ensures .0 ∙ t .0, ensures .1 ∙ t .1)
+-- what the writer left of a packet and answered by the number n, it did for the thirteen bytes
+pub written : (f p : List ℕ) {last : List ℕ} {l : Label} {n : ℕ} → length f ≡ 13 → l ≡ labelOf f →
+    n ≡ number (writingOf l p) → last ≡ after p (writingOf l p) → (n ≡ number (writeFrom f p)) × (last ≡ after p (writeFrom f p))
+written f p h e told left = let t = as-both p (ap (λ (m : Label). writingOf m p) e ∙ write-through f p h) in (told ∙ t .0, left ∙ t .1)

@@ -1,6 +1,6 @@
 -- The answers of the crates below as plain numbers and bytes.
 use Prim.Native.Nat.{ℕ, _+_, _*_, _/_, _%_}
-use mathlib.Core.Bool.{Bool, not}
+use mathlib.Core.Bool.{not}
 use mathlib.Core.List.{List, [], _∷_}
 use lib.Dec.{eqb}
 use lib.ListN.{length, getD}
@@ -37,9 +37,12 @@ labelOf f = record {
   pty = getD f 12 0;
 }
 
--- 1, the refusal of a wrong length, where the thirteen bytes are not thirteen
+-- the answer where the thirteen bytes of a label are not thirteen: no number of the paper
+abbrev pub notThirteen : ℕ
+notThirteen = 255
+
 abbrev pub thirteen : List ℕ → Answer (List ℕ)
-thirteen f = firstOf ((not (eqb (length f) 13), 1) ∷ []) f
+thirteen f = firstOf ((not (eqb (length f) 13), notThirteen) ∷ []) f
 
 abbrev pub fieldsGiven : Answer Label → Answer (List ℕ)
 fieldsGiven (refused n) = refused n

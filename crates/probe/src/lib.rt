@@ -1,4 +1,5 @@
 // What tests and benchmarks in another language link: a few calls over numbers and bytes. None asks anything of its caller.
+ghost use mathlib.Core.Bool.{true};
 ghost use mathlib.Core.Path.{_≡_};
 ghost use Rattle.answer.specs.Answer.{number, after};
 ghost use Rattle.hamming.specs.Byte.{nibbleOf, codingOf};
@@ -6,6 +7,7 @@ ghost use Rattle.label.specs.Packet.{valueOf};
 ghost use Rattle.label.specs.Pil.{serviceOf};
 ghost use Rattle.calendar.specs.Calendar.{windowIn};
 ghost use lib.ListN.{length};
+ghost use Rattle.probe.specs.Laws.{Laws};
 ghost use Rattle.probe.specs.Plain.{byteOr, fieldBytes, labelOf, readInto, writeFrom, serviceNumber, windowOr};
 use answer::pair;
 use answer::triple;
@@ -14,8 +16,10 @@ use hamming::Coded;
 use hamming::Nibble;
 use label::Label;
 use label::Reading;
-use label::Written;
 use label::pil::Service;
+
+// The answer where the thirteen bytes of a label are not thirteen: no number of the paper.
+const NOT_THIRTEEN: u8 = 255;
 
 // The value, and 16 for a damaged byte.
 #[no_mangle]
@@ -62,9 +66,10 @@ fn fill(l: Label, out: &mut [u8])
 #[no_mangle]
 pub extern "C" fn probe_read(bytes: &[u8], out: &mut [u8]) -> u8
     ensures { λ r. ⌜ (r ≡ number (readInto (now (bytes .entry)) (now (out .entry)))) × (now (out .exit) ≡ after (now (out .entry)) (readInto (now (bytes .entry)) (now (out .entry)))) ⌝ }
+    ensures { λ r. ⌜ now (bytes .exit) ≡ now (bytes .entry) ⌝ }
 {
     if out.len() != 13 {
-        return 1;
+        return NOT_THIRTEEN;
     }
     let r = label::reader::read(bytes);
     match r {
@@ -99,17 +104,14 @@ fn label_of(f: &[u8]) -> Label
 #[no_mangle]
 pub extern "C" fn probe_write(fields: &[u8], buf: &mut [u8]) -> u8
     ensures { λ r. ⌜ (r ≡ number (writeFrom (now (fields .entry)) (now (buf .entry)))) × (now (buf .exit) ≡ after (now (buf .entry)) (writeFrom (now (fields .entry)) (now (buf .entry)))) ⌝ }
+    ensures { λ r. ⌜ now (fields .exit) ≡ now (fields .entry) ⌝ }
 {
     if fields.len() != 13 {
-        return 1;
+        return NOT_THIRTEEN;
     }
     let l = label_of(fields);
     let w = label::writer::write(l, buf);
-    match w {
-        Written::WrongLength => 1,
-        Written::TooWide => 16,
-        Written::Done => 0,
-    }
+    w.number()
 }
 
 #[no_mangle]
@@ -137,4 +139,11 @@ pub extern "C" fn probe_window(pil: u32, year: u8) -> u64
         Validity::Refused => 11,
         Validity::Given(w) => w.opens as u64 * 4294967296 + w.closes as u64,
     }
+}
+
+// The laws of these calls, as a promise of the crate.
+pub fn lawful() -> bool
+    ensures { λ r. ⌜ (r ≡ true) × Laws ⌝ }
+{
+    true
 }

@@ -6,7 +6,7 @@ use native.Mathlib.Omega.{arith}
 use lib.Dec.{ltb}
 use borrow.Author.Needs.{needs}
 use Rattle.answer.specs.Answer.{Answer, given}
-use Rattle.label.specs.Pil.{partsOf}
+use Rattle.label.specs.Pil.{twentyBits, partsOf}
 use Rattle.label.specs.declared.pil.Announced.{Announced}
 use Rattle.calendar.specs.Calendar.{realIn, dayNumber, opening, closing, opensAt, closesAt, windowIn}
 use Rattle.calendar.specs.declared.Window.{Window}
@@ -45,7 +45,11 @@ real-in-requires c κs = search needs
 
 returns : tie.Need-returns
 unfolding windowIn
-returns c = rw (← c .before .real-in .ensures, c .if1 .taken)
+returns c =
+    let b = c .before in
+    let a = b .before .args in
+    let refused : (ltb 99 (a .year) || not (twentyBits (a .pil)) || not (b .real-in .result)) ≡ true = c .if1 .taken in
+    rw (← b .real-in .ensures, refused)
 
 parts-requires : tie.Need-parts-requires
 parts-requires c κs = search needs

@@ -9,9 +9,6 @@ use Rattle.hamming.specs.Byte.{nearTo}
 use Rattle.hamming.proofs.Bytes.{tried, hit, miss, none-near}
 use Rattle.hamming.proofs.decode.Statement.{statement}
 use Rattle.hamming.proofs.decode.Tie as tie
-use Rattle.hamming.proofs.decode.Reads as reads
-use Rattle.hamming.proofs.decode.Lts as lts
-use Rattle.hamming.proofs.near.Reads as near-reads
 
 abbrev Inv-loop : tie.InvT-loop
 Inv-loop b own i₀ i = (i ≤ 5) × ((k : ℕ) → k < i → nearTo b (tried b k) ≡ false)

@@ -28,14 +28,14 @@ mul-result c = search needs
 array-read-result : tie.Need-array-read-result
 array-read-result c = search needs
 
+returns-2 : tie.Need-returns-2
+returns-2 c = rw (c .before .leap-day .ensures) (sym (daysBeforeMonth-sums _ _ (c .if1 .left)))
+
 add-result-2 : tie.Need-add-result-2
 add-result-2 c =
     let year = c .before .before .args .year in
     let month = c .before .before .args .month in
     omega (arith, daysBeforeMonth-sums year month (c .if1 .left), daysBeforeMonth-le year month (omega arith), daysOfYear-leap year, leapDay-le (leap year))
-
-returns-2 : tie.Need-returns-2
-returns-2 c = rw (c .before .leap-day .ensures) (sym (daysBeforeMonth-sums _ _ (c .if1 .left)))
 
 pub days-before-month-spec : {M : Type 1} → statement M
 days-before-month-spec =

@@ -16,13 +16,13 @@ array-read-result c = search needs
 leap-day-requires : tie.Need-leap-day-requires
 leap-day-requires c κs = search needs
 
-add-result : tie.Need-add-result
-unfolding daysIn
-add-result c = omega (arith, daysIn-le (c .before .before .args .year) (c .before .before .args .month) (c .before .if1 .left))
-
 returns-2 : tie.Need-returns-2
 unfolding daysIn
 returns-2 c = rw (c .leap-day .ensures)
+
+add-result : tie.Need-add-result
+unfolding daysIn
+add-result c = omega (arith, daysIn-le (c .before .before .args .year) (c .before .before .args .month) (c .before .if1 .left))
 
 pub days-in-spec : {M : Type 1} → statement M
 days-in-spec =

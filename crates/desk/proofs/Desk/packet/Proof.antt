@@ -52,7 +52,7 @@ returns-2 c =
     let a = b .before .before .args in
     rw (
       gate-open (a .self) (a .bytes .now) (a .self) (a .tuner) (a .time) (b .barred .ensures) (o .enum-told .given .1),
-      ← r .read .ensures,
+      ← r .read .ensures .0,
       k .reading .given .1,
       c .refuse2 .ensures,
     )
@@ -69,7 +69,7 @@ returns-3 c =
     let e = gate-open (a .self) l (a .self) (a .tuner) (a .time) (b .barred .ensures) (o .enum-told .given .1) in
     rw (
       gate-open (a .self) (a .bytes .now) (a .self) (a .tuner) (a .time) (b .barred .ensures) (o .enum-told .given .1),
-      ← r .read .ensures,
+      ← r .read .ensures .0,
       c .before .before .reading2 .given .1,
     )
     (rw (hearing-open (a .tuner) (a .time) l (a .self) e) at (c .hear .ensures))

@@ -1,7 +1,8 @@
 -- `read` refuses by the first row that applies, each of its tests being that of a row; past them the label is that of the number of bytes 9 to 21.
+-- What lies behind a `&` is one value at entry and at exit, so that the bytes lent are as they were.
 use borrow.Author.Needs.{needs}
 use Prim.Native.Nat.{ℕ}
-use mathlib.Core.Path.{_≡_, sym, ap, ap₂, _∙_}
+use mathlib.Core.Path.{_≡_, refl, sym, ap, ap₂, _∙_}
 use mathlib.Core.Bool.{Bool, true, not, _&&_, _||_}
 use mathlib.Core.List.{List}
 use borrow.Author.Tests.{lt-ltb, le-ltb}
@@ -68,7 +69,7 @@ unfolding readingOf
 by k p h e = refused-at k (readerRows p) (labelIn p) h e
 
 returns : tie.Need-returns
-returns c = by 0 (packet (c .before .before)) tt (other-length (packet (c .before .before)) (c .if1 .taken))
+returns c = (by 0 (packet (c .before .before)) tt (other-length (packet (c .before .before)) (c .if1 .taken)), refl)
 
 shared-slice-read-value : tie.Need-shared-slice-read-value
 shared-slice-read-value c = search needs
@@ -83,10 +84,10 @@ value-requires-2 : tie.Need-value-requires-2
 value-requires-2 c κs = search needs
 
 returns-2 : tie.Need-returns-2
-returns-2 c = by 1 (packet-2 (c .before)) (passed-1 (c .before .before .before .before .before)) (sym (row-2 (c .before)) ∙ c .if2 .taken)
+returns-2 c = (by 1 (packet-2 (c .before)) (passed-1 (c .before .before .before .before .before)) (sym (row-2 (c .before)) ∙ c .if2 .taken), refl)
 
 returns-3 : tie.Need-returns-3
-returns-3 c = by 2 (packet-2 (c .before .before)) (passed-2 (c .before)) (sym (row-3 (c .before .before)) ∙ c .if3 .taken)
+returns-3 c = (by 2 (packet-2 (c .before .before)) (passed-2 (c .before)) (sym (row-3 (c .before .before)) ∙ c .if3 .taken), refl)
 
 shared-slice-read-value-3 : tie.Need-shared-slice-read-value-3
 shared-slice-read-value-3 c = search needs
@@ -95,16 +96,16 @@ value-requires-3 : tie.Need-value-requires-3
 value-requires-3 c κs = search needs
 
 returns-4 : tie.Need-returns-4
-returns-4 c = by 3 (packet-4 (c .before)) (passed-3 (c .before .before .before)) (sym (row-4 (c .before)) ∙ lt-ltb _ _ (c .if4 .taken))
+returns-4 c = (by 3 (packet-4 (c .before)) (passed-3 (c .before .before .before)) (sym (row-4 (c .before)) ∙ lt-ltb _ _ (c .if4 .taken)), refl)
 
 returns-5 : tie.Need-returns-5
-returns-5 c = by 4 (packet-4 (c .before .before)) (passed-4 (c .before)) (sym (row-5 (c .before .before)) ∙ c .if5 .taken)
+returns-5 c = (by 4 (packet-4 (c .before .before)) (passed-4 (c .before)) (sym (row-5 (c .before .before)) ∙ c .if5 .taken), refl)
 
 nibbles-requires : tie.Need-nibbles-requires
 nibbles-requires c κs = search needs
 
 returns-6 : tie.Need-returns-6
-returns-6 c = by 5 (packet-6 (c .before)) (passed-5 (c .before .before)) (sym (c .before .nibbles .ensures .0) ∙ c .if6 .taken)
+returns-6 c = (by 5 (packet-6 (c .before)) (passed-5 (c .before .before)) (sym (c .before .nibbles .ensures .0) ∙ c .if6 .taken), refl)
 
 label-of-requires : tie.Need-label-of-requires
 label-of-requires c κs = search needs
@@ -113,8 +114,8 @@ returns-7 : tie.Need-returns-7
 unfolding readingOf
 returns-7 c =
     let p = packet-6 (c .before .before) in
-    ap given (c .label-of .ensures (valueAt p) (c .before .before .before .before .before .value3 .ensures) (c .before .before .nibbles .ensures .1))
-    ∙ given-past (readerRows p) (labelIn p) (passed-6 (c .before))
+    let e = c .label-of .ensures (valueAt p) (c .before .before .before .before .before .value3 .ensures) (c .before .before .nibbles .ensures .1) in
+    (ap given e ∙ given-past (readerRows p) (labelIn p) (passed-6 (c .before)), refl)
 
 pub read-spec : {M : Type 1} → statement M
 read-spec =
