@@ -32,22 +32,38 @@ pub fn run(words: &[String]) -> Vec<String> {
 /// A size of pieces that takes all at once.
 pub const WHOLE: usize = usize::MAX;
 
-/// What a command prints, and how it ends. Its input comes in pieces of this size.
-pub fn printed(command: &[String], input: &[u8], piece: usize) -> (Vec<u8>, ExitStatus) {
+/// What a command prints and what it says on standard error, and how it ends.
+pub struct Ended {
+    pub printed: Vec<u8>,
+    pub said: String,
+    pub status: ExitStatus,
+}
+
+/// Runs a command, whose input comes in pieces of this size.
+pub fn ended(command: &[String], input: &[u8], piece: usize) -> Ended {
     let mut start = Command::new(&command[0]);
-    start.args(&command[1..]).stdin(Stdio::piped()).stdout(Stdio::piped());
+    start.args(&command[1..]).stdin(Stdio::piped()).stdout(Stdio::piped()).stderr(Stdio::piped());
     let held = ENVIRONMENT.lock().unwrap();
     let started = start.spawn();
     drop(held);
     let mut process = started.unwrap_or_else(|e| panic!("{command:?}: {e}"));
     let (mut to, mut from) = (process.stdin.take().unwrap(), process.stdout.take().unwrap());
-    let mut printed = Vec::new();
+    let mut errors = process.stderr.take().unwrap();
+    let (mut printed, mut said) = (Vec::new(), Vec::new());
     std::thread::scope(|scope| {
         scope.spawn(move || {
             // a program that ends early leaves some of it: what it printed is judged, and how it ended
             let _ = input.chunks(piece).try_for_each(|bytes| to.write_all(bytes));
         });
+        scope.spawn(|| errors.read_to_end(&mut said).unwrap());
         from.read_to_end(&mut printed).unwrap();
     });
-    (printed, process.wait().unwrap())
+    Ended { printed, said: String::from_utf8_lossy(&said).into_owned(), status: process.wait().unwrap() }
+}
+
+/// What a command prints that ends well, and says nothing beside.
+pub fn printed(command: &[String], input: &[u8]) -> Vec<u8> {
+    let Ended { printed, said, status } = ended(command, input, WHOLE);
+    assert!(status.success() && said.is_empty(), "{command:?}: {status}: {said}");
+    printed
 }

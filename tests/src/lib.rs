@@ -1,5 +1,6 @@
 //! What the comparing tests share: the compiled code's calls, the compiled programs, and libzvbi.
 pub mod command;
+pub mod compare;
 pub mod ours;
 pub mod play;
 pub mod rows;

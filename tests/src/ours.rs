@@ -1,12 +1,9 @@
 //! The calls that the crate `probe` exports, each made for many arguments at once: `tests/compiled/src/answers.rs` makes them.
-use crate::command::{compiled, printed, run, WHOLE};
+use crate::command::{compiled, printed, run};
 use independent::paper::Label;
 
 fn ask(call: &str, questions: &[u8]) -> Vec<u8> {
-    let command = run(&[compiled("answers"), String::from(call)]);
-    let (answers, status) = printed(&command, questions, WHOLE);
-    assert!(status.success(), "{command:?}: {status}");
-    answers
+    printed(&run(&[compiled("answers"), String::from(call)]), questions)
 }
 
 /// As many answers as there are questions, of so many bytes each.

@@ -1,53 +1,67 @@
 //! The compiled program: the sheets that it is given, and what it prints.
-use crate::command::{built, compiled, printed, run, WHOLE};
+use crate::command::{built, compiled, ended, run, Ended, WHOLE};
 
-/// A sheet, and how many bytes of it arrive together at most.
+/// A sheet, and how it is read.
+#[derive(Clone)]
 pub struct Given {
     pub bytes: Vec<u8>,
+    /// So many bytes arrive together at most.
     pub at_most: usize,
+    /// So many reads are interrupted before each one that is not.
+    pub interrupted: u32,
+    /// The error of the read at the sheet's end; 0 where the input ends there.
+    pub error: u32,
 }
 
-fn program() -> String {
-    built("target/bin/play")
-}
-
-/// Another command than that of the program which the build leaves.
-fn other() -> Option<Vec<String>> {
-    let play = std::env::var("PLAY").ok()?;
-    Some(play.split_whitespace().map(String::from).collect())
-}
-
-/// What a command prints; where it does not end well there is a line more, so that it equals nothing that a sheet should print.
-fn text(command: &[String], input: &[u8], piece: usize) -> String {
-    let (printed, status) = printed(command, input, piece);
-    let mut text = String::from_utf8_lossy(&printed).into_owned();
-    if !status.success() {
-        text += &format!("ended with {status}\n");
+impl Given {
+    pub fn whole(bytes: Vec<u8>) -> Given {
+        Given { bytes, at_most: WHOLE, interrupted: 0, error: 0 }
     }
-    text
 }
 
-/// One start for one sheet.
-pub fn started(sheet: &Given) -> String {
-    let command = other().unwrap_or_else(|| run(&[program()]));
-    text(&command, &sheet.bytes, sheet.at_most)
+/// The command of the program that the build leaves.
+pub fn program() -> Vec<String> {
+    run(&[built("target/bin/play")])
 }
 
-/// One start for all sheets, and a process for each: see `tests/compiled/src/again.rs`. Another command is started for each.
+/// What a command prints; where it does not end well, or says something, there are lines more, so that it equals nothing that a sheet
+/// should print.
+fn text(ended: Ended) -> String {
+    let mut text = String::from_utf8_lossy(&ended.printed).into_owned();
+    if !ended.status.success() {
+        text += &format!("ended with {}\n", ended.status);
+    }
+    text + &ended.said
+}
+
+/// One start of a command for one sheet.
+pub fn started(command: &[String], sheet: &Given) -> String {
+    text(ended(command, &sheet.bytes, sheet.at_most))
+}
+
+/// One start of the program for all sheets, and a process for each: see `tests/compiled/src/again.rs`.
 pub fn each(sheets: &[Given]) -> Vec<String> {
-    if other().is_some() {
-        return sheets.iter().map(started).collect();
-    }
+    apart(&text(together(sheets)))
+}
+
+/// The same, and apart from it what all say on standard error.
+pub fn told(sheets: &[Given]) -> (Vec<String>, String) {
+    let mut ended = together(sheets);
+    let said = std::mem::take(&mut ended.said);
+    (apart(&text(ended)), said)
+}
+
+fn together(sheets: &[Given]) -> Ended {
     let mut input = Vec::new();
-    for Given { bytes, at_most } in sheets {
-        for number in [*at_most, bytes.len()] {
-            input.extend((number as u32).to_be_bytes());
+    for Given { bytes, at_most, interrupted, error } in sheets {
+        for number in [*at_most as u32, *interrupted, *error, bytes.len() as u32] {
+            input.extend(number.to_be_bytes());
         }
         input.extend(bytes);
     }
     let loader = String::from("/lib64/ld-linux-x86-64.so.2");
-    let command = run(&[loader, String::from("--preload"), compiled("libagain.so"), program()]);
-    apart(&text(&command, &input, WHOLE))
+    let command = run(&[loader, String::from("--preload"), compiled("libagain.so"), built("target/bin/play")]);
+    ended(&command, &input, WHOLE)
 }
 
 /// What each sheet prints, out of what all print: a line that begins with `=` has the status of one's process.

@@ -1,6 +1,6 @@
 //! The compiled desk as a machine that has answered already: rows of calls for the program `calls`, whose sources have the layout, and
 //! what it answered.
-use crate::command::{built, printed, run, WHOLE};
+use crate::command::{built, printed, run};
 use independent::calls::{Call, Machine, State};
 
 type Row = [u8; 128];
@@ -44,8 +44,7 @@ pub fn second() -> Row {
 /// What the program answers to rows, each of which begins with a fresh desk.
 pub fn answered(rows: &[Vec<Row>]) -> Vec<Answered> {
     let input: Vec<u8> = rows.iter().flatten().flatten().copied().collect();
-    let (output, status) = printed(&run(&[built("target/bin/calls")]), &input, WHOLE);
-    assert!(status.success(), "{status}");
+    let output = printed(&run(&[built("target/bin/calls")]), &input);
     let mut answers = output.chunks(40).map(|answer| Answer::try_from(answer).unwrap());
     let each = |row: &Vec<Row>| Answered { answers: answers.by_ref().take(row.len()).collect(), at: 0 };
     let answered: Vec<Answered> = rows.iter().map(each).collect();

@@ -1,98 +1,29 @@
-//! The compiled program plays sheets, and prints what the independent desk prints, byte for byte.
-//!
-//! `PLAY` names another command than the one that the build leaves; it may have arguments, its path is a whole one, and it is started
-//! for every sheet. `SHEETS` is another number of random sheets.
-use against_the_world::command::WHOLE;
-use against_the_world::play::{self, Given};
+//! The compiled program plays sheets, and prints what the independent desk prints, byte for byte. `tests/src/bin/play_sheets.rs` plays
+//! another number of them, and by another command.
+use against_the_world::compare::{many, own, same};
 use independent::random::Random;
 use independent::{sheet, sheets};
-use std::sync::atomic::{AtomicUsize, Ordering};
-
-/// So many sheets have one start, where each is not to have its own.
-const BATCH: usize = 1_000;
-
-#[derive(Clone, Copy)]
-enum Start {
-    Own,
-    Shared,
-}
-
-/// Under an emulator a start takes longer than most sheets, so that many share one.
-const MANY: Start = if cfg!(target_arch = "x86_64") { Start::Own } else { Start::Shared };
-
-/// Every eighth sheet comes in small pieces, none of which an item fits.
-fn given(n: usize, bytes: Vec<u8>) -> Given {
-    Given { bytes, at_most: if n % 8 == 1 { 13 } else { WHOLE } }
-}
-
-fn compare(name: &str, n: usize, sheet: &[u8], printed: &str) {
-    let expected = sheet::play(sheet);
-    if printed != expected {
-        let line = printed.lines().zip(expected.lines()).take_while(|(a, b)| a == b).count();
-        panic!(
-            "{name} {n}: line {} is {:?} in place of {:?}; input {}",
-            line + 1,
-            printed.lines().nth(line),
-            expected.lines().nth(line),
-            sheet.iter().take(4_000).map(|b| format!("{b:02X}")).collect::<String>()
-        );
-    }
-}
-
-fn batch<F: Fn(usize) -> Vec<u8>>(start: Start, numbers: std::ops::Range<usize>, name: &str, sheet_of: &F) {
-    let sheets: Vec<Given> = numbers.clone().map(|n| given(n, sheet_of(n))).collect();
-    let printed = match start {
-        Start::Own => sheets.iter().map(play::started).collect(),
-        Start::Shared => play::each(&sheets),
-    };
-    for ((n, sheet), printed) in numbers.zip(&sheets).zip(&printed) {
-        compare(name, n, &sheet.bytes, printed);
-    }
-    assert_eq!(printed.len(), sheets.len(), "{name}");
-}
-
-/// Plays each sheet and compares, on as many threads as there are processors.
-fn same<F: Fn(usize) -> Vec<u8> + Sync>(start: Start, count: usize, name: &str, sheet_of: F) {
-    let together = match start {
-        Start::Own => 1,
-        Start::Shared => BATCH,
-    };
-    let next = AtomicUsize::new(0);
-    let threads = std::thread::available_parallelism().map_or(2, |n| n.get());
-    std::thread::scope(|scope| {
-        for _ in 0..threads {
-            scope.spawn(|| loop {
-                let from = next.fetch_add(together, Ordering::Relaxed);
-                if from >= count {
-                    break;
-                }
-                batch(start, from..count.min(from + together), name, &sheet_of);
-            });
-        }
-    });
-}
 
 #[test]
 fn ten_thousand_random_sheets() {
-    let count = std::env::var("SHEETS").map_or(sheets::SHEETS as usize, |n| n.parse().unwrap());
-    same(MANY, count, "sheet", |n| sheets::sheet(n as u64));
+    same(&many(), sheets::SHEETS as usize, "sheet", |n| sheets::sheet(n as u64));
 }
 
 /// The start that is shared hides nothing of the program's own.
 #[test]
 fn random_sheets_with_a_start_for_each() {
-    same(Start::Own, 200, "sheet", |n| sheets::sheet(n as u64));
+    same(&own(), 200, "sheet", |n| sheets::sheet(n as u64));
 }
 
 #[test]
 fn every_cut_of_a_long_sheet() {
     let whole = sheets::long(3, 12);
-    same(MANY, whole.len() + 1, "cut at", |n| whole[..n].to_vec());
+    same(&many(), whole.len() + 1, "cut at", |n| whole[..n].to_vec());
 }
 
 #[test]
 fn random_bytes() {
-    same(Start::Own, 300, "random bytes", |n| {
+    same(&own(), 300, "random bytes", |n| {
         let mut r = Random::new(n as u64 ^ 0xB17E5);
         let length = r.below(if n % 2 == 0 { 40 } else { 4_000 }) as usize;
         let mut bytes = r.bytes(length);
@@ -110,5 +41,5 @@ fn the_largest_sheet() {
     assert_eq!(largest.len(), 1 + 6 * 255 + 2 + 47 * 65_535);
     let live = sheet::play(&largest).lines().filter(|line| line.starts_with("P 0") && !line.ends_with(" 0")).count();
     assert!(live > 20_000, "{live}");
-    same(Start::Own, 1, "the largest", |_| largest.clone());
+    same(&own(), 1, "the largest", |_| largest.clone());
 }

@@ -1,5 +1,5 @@
 //! The teaching sheets are what they say, and the compiled program plays each as its class expects.
-use against_the_world::command::{file, WHOLE};
+use against_the_world::command::file;
 use against_the_world::play::{self, Given};
 use independent::{sheet, teaching};
 use std::fs;
@@ -13,7 +13,7 @@ fn every_teaching_sheet() {
         let expected = fs::read_to_string(dir.join(format!("{}.out", lesson.name))).unwrap();
         assert_eq!(bytes, lesson.sheet(), "{}: another sheet", lesson.name);
         assert_eq!(sheet::play(&lesson.sheet()), expected, "{}: the independent desk", lesson.name);
-        let printed = play::started(&Given { bytes, at_most: WHOLE });
+        let printed = play::started(&play::program(), &Given::whole(bytes));
         assert_eq!(printed, expected, "{}: the program", lesson.name);
         assert!(page.contains(lesson.line), "{}: no line of explanation", lesson.name);
     }

@@ -1,9 +1,11 @@
 // Plays a sheet: standard input in large pieces through `sheet`, and what it prints in large pieces to standard output.
+// What cannot be read or written is told on standard error.
 ghost use Prim.Native.Nat.{_+_, _*_, _<_, _≤_};
 ghost use mathlib.Core.Bool.{true};
 ghost use mathlib.Core.Path.{_≡_};
 ghost use lib.ListN.{length};
 ghost use Rattle.sheet.specs.Pieces.{longest};
+use libc::EINTR;
 use libc::STDIN_FILENO;
 use libc::STDOUT_FILENO;
 use sheet::Closed;
@@ -12,6 +14,13 @@ use sheet::Sheet;
 
 // What a piece of 4,096 bytes may print.
 const SHARE: usize = 32768;
+
+// So many bytes decide what is printed: those of the longest sheet, which are a count, 255 timers, a count and 65,535 packets, and
+// one that is left over.
+const DECIDING: usize = 1 + 255 * 6 + 2 + 65535 * 47 + 1;
+
+// A read that is interrupted is tried again. Nothing says that this ends, so at the thousandth time it is one that failed.
+const TRIES: u32 = 1000;
 
 // A piece that finds room is taken, and stays within its share of it.
 fn taken(sheet: Sheet, piece: &[u8], out: &mut [u8], at: usize) -> Fed
@@ -22,31 +31,56 @@ fn taken(sheet: Sheet, piece: &[u8], out: &mut [u8], at: usize) -> Fed
 }
 
 // The same of the last line.
-fn closed(sheet: Sheet, out: &mut [u8], at: usize) -> Closed
+fn closed(sheet: Sheet, ended: bool, out: &mut [u8], at: usize) -> Closed
     requires { ⌜ at + longest ≤ length (now out) ⌝ }
     ensures { λ r. ⌜ (r .taken ≡ true) × (r .at ≤ at + longest) ⌝ }
 {
-    sheet.close(out, at)
+    sheet.close(ended, out, at)
+}
+
+fn interrupted(got: isize) -> bool {
+    if got < 0 {
+        return os::errno() == EINTR;
+    }
+    false
+}
+
+// One read, tried again where it is interrupted.
+fn read(piece: &mut [u8]) -> isize {
+    let mut tries = TRIES;
+    while tries > 0 {
+        let got = libc::read(STDIN_FILENO, piece);
+        if !interrupted(got) {
+            return got;
+        }
+        tries -= 1;
+    }
+    -1
 }
 
 struct Turn {
-    going: bool,
+    got: usize,
+    ended: bool,
     sheet: Sheet,
     at: usize,
 }
 
-// One piece. A read that fails counts as the input's end.
+// One piece. A read that fails gives nothing, as the input's end does, but is not the end.
 fn play_piece(sheet: Sheet, out: &mut [u8], at: usize) -> Turn
     requires { ⌜ at + longest * 4096 ≤ length (now out) ⌝ }
     ensures { λ r. ⌜ r .at ≤ at + longest * 4096 ⌝ }
 {
     let mut piece = io::buffer();
-    let got = libc::read(STDIN_FILENO, &mut piece);
+    let got = read(&mut piece);
+    if got < 0 {
+        os::fail(b"play: the input could not be read");
+    }
     let n = io::count(got, &piece);
     let fed = taken(sheet, &piece[..n], out, at);
     let next = fed.sheet;
     Turn {
-        going: 0 < n,
+        got: n,
+        ended: got == 0,
         sheet: next,
         at: fed.at,
     }
@@ -55,7 +89,11 @@ fn play_piece(sheet: Sheet, out: &mut [u8], at: usize) -> Turn
 fn write(out: &[u8], at: usize) -> bool
     requires { ⌜ at ≤ length (now out) ⌝ }
 {
-    io::write_all(STDOUT_FILENO, &out[..at])
+    let written = io::write_all(STDOUT_FILENO, &out[..at]);
+    if !written {
+        os::fail(b"play: the output could not be written");
+    }
+    written
 }
 
 struct Kept {
@@ -75,22 +113,31 @@ fn flush(out: &[u8], at: usize) -> Kept
     Kept { written: true, at }
 }
 
-// The turns that are left: none where the input has ended.
-fn left(turns: u64, going: bool) -> u64
-    requires { ⌜ 0 < turns ⌝ }
-    ensures { λ r. ⌜ r < turns ⌝ }
+// How many bytes may still decide something: none where a read gave none, or once a byte is left over.
+fn deciding(left: usize, got: usize, settled: bool) -> usize
+    requires { ⌜ 0 < left ⌝ }
+    ensures { λ r. ⌜ r < left ⌝ }
 {
-    if going { turns - 1 } else { 0 }
+    if settled {
+        return 0;
+    }
+    if got == 0 {
+        return 0;
+    }
+    if left < got {
+        return 0;
+    }
+    left - got
 }
 
-// Nothing says that the input ends, so the loop counts its turns down, from a number that no run uses up.
-// Output that cannot be written ends the program.
+// Reads up to the input's end, and no further than bytes decide something. Output that cannot be written ends the program.
 fn main() {
     let mut out = io::large_buffer();
     let mut sheet = Sheet::new();
     let mut at: usize = 0;
-    let mut turns = u64::MAX;
-    while turns > 0 {
+    let mut left = DECIDING;
+    let mut ended = false;
+    while left > 0 {
         let t = play_piece(sheet, &mut out, at);
         let next = t.sheet;
         sheet = next;
@@ -99,8 +146,9 @@ fn main() {
             return;
         }
         at = kept.at;
-        turns = left(turns, t.going);
+        ended = t.ended;
+        left = deciding(left, t.got, sheet.left_over());
     }
-    let last = closed(sheet, &mut out, at);
+    let last = closed(sheet, ended, &mut out, at);
     write(&out, last.at);
 }

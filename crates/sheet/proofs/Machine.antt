@@ -5,17 +5,18 @@ use mathlib.Core.Bool.{Bool, true, false, cond}
 use mathlib.Core.List.{List, [], _∷_, _++_, append-assoc, append-nil}
 use native.Mathlib.Numerals.{add-one}
 use native.Mathlib.Omega.{arith}
-use borrow.Author.Tests.{leb-true, leb-false, lt-ltb, le-ltb}
+use borrow.Author.Tests.{leb-true, leb-false, le-leb, lt-ltb, le-ltb}
 use lib.Dec.{eqb, eqb·suc-zero}
 use lib.ListN.{length, take, length-append, length-set}
 use lib.Seq.{append-snoc, length-take-le, take-append-seam, drop-append-seam, take-suc-set}
+use Rattle.answer.proofs.Every.{no-way}
 use Rattle.desk.specs.declared.Desk.{Desk}
 use Rattle.sheet.specs.declared.Stage.{Stage}
 use Rattle.sheet.specs.declared.Stage.the-variants.{TimerCount, Timers, PacketCount, Packets, Played, LeftOver}
 use Rattle.sheet.specs.declared.Sheet.{Sheet}
 use Rattle.answer.specs.Bytes.{numberOf}
 use Rattle.sheet.specs.Sheet.{brokenLine, Next, short, item, next, ended, packetLeft, onPacket, packetsFrom, onPacketCount, timerLeft, onTimer, timersFrom, onTimerCount, sheetOf}
-use Rattle.sheet.specs.Pieces.{need, timersLeft, packetsLeft, stageAfter, deskAfter, told, holding, isWhole, itemOf, afterItem, toldBy, afterByte, byteTold, afterPiece, pieceTold, closing, endTold, blank}
+use Rattle.sheet.specs.Pieces.{need, timersLeft, packetsLeft, stageAfter, deskAfter, told, holding, isWhole, itemOf, afterItem, toldBy, afterByte, byteTold, afterPiece, pieceTold, closing, endTold, leftOver, blank}
 use Rattle.sheet.specs.Laws.{joined, printed}
 
 -- ── the next bytes ─────────────────────────────────────────────────────────────────────────────────────────────────
@@ -117,7 +118,7 @@ need-bounds Played = omega arith
 need-bounds LeftOver = omega arith
 
 -- the end of the input finds the next item short
-rest-end : (s : Sheet) → Playing s → rest s [] ≡ endTold s
+rest-end : (s : Sheet) → Playing s → rest s [] ≡ endTold true s
 unfolding endTold
 rest-end s p =
     let n = need-bounds (s .stage) in
@@ -194,3 +195,40 @@ printed-rest (p ∷ ps) s h =
 pub pieces : (ps : List (List ℕ)) → printed ps blank ≡ sheetOf (joined ps)
 unfolding sheetOf
 pieces ps = printed-rest ps blank (record { real = tt; part = omega arith; sized = refl })
+
+-- ── a byte left over ───────────────────────────────────────────────────────────────────────────────────────────────
+is-left-over : (st : Stage) → leftOver st ≡ true → st ≡ LeftOver
+is-left-over TimerCount e = no-way (sym e)
+is-left-over (Timers n) e = no-way (sym e)
+is-left-over PacketCount e = no-way (sym e)
+is-left-over (Packets n) e = no-way (sym e)
+is-left-over Played e = no-way (sym e)
+is-left-over LeftOver e = refl
+
+-- one byte more, and a piece more, print nothing and leave the desk
+record Settled (s : Sheet) (told : List ℕ) (t : Sheet) : Type 0 where
+  silent : told ≡ []
+  stays : t .stage ≡ LeftOver
+  same : t .desk ≡ s .desk
+
+byte-settled : (b : ℕ) (s : Sheet) → s .stage ≡ LeftOver → Settled s (byteTold b s) (afterByte b s)
+unfolding afterByte byteTold afterItem toldBy
+byte-settled b s e = rw (e, le-leb 1 (s .have + 1) (omega arith)) (record { silent = refl; stays = refl; same = refl })
+
+piece-settled : (p : List ℕ) (s : Sheet) → s .stage ≡ LeftOver → Settled s (pieceTold p s) (afterPiece p s)
+unfolding afterPiece pieceTold
+piece-settled [] s e = record { silent = refl; stays = e; same = refl }
+piece-settled (b ∷ bs) s e =
+    let h = byte-settled b s e in
+    let t = piece-settled bs (afterByte b s) (h .stays) in
+    record { silent = rw (h .silent, t .silent); stays = t .stays; same = t .same ∙ h .same }
+
+printed-settled : (ps : List (List ℕ)) (s : Sheet) → s .stage ≡ LeftOver → printed ps s ≡ brokenLine (s .desk)
+unfolding endTold
+printed-settled [] s e = rw e
+printed-settled (p ∷ ps) s e =
+    let h = piece-settled p s e in
+    rw (h .silent) (printed-settled ps (afterPiece p s) (h .stays) ∙ ap brokenLine (h .same))
+
+pub settled : (s : Sheet) (ps : List (List ℕ)) → leftOver (s .stage) ≡ true → printed ps s ≡ brokenLine (s .desk)
+settled s ps e = printed-settled ps s (is-left-over (s .stage) e)

@@ -3,13 +3,14 @@ use mathlib.Core.Path.{_≡_}
 use native.Mathlib.Omega.{arith}
 use Rattle.answer.proofs.Answers.{equation, paired}
 use Rattle.sheet.specs.Laws.{Laws}
-use Rattle.sheet.specs.Pieces.{blank, fedBy, outAfter, closedBy, outClosed}
-use Rattle.sheet.proofs.Machine.{pieces}
+use Rattle.sheet.specs.Pieces.{blank, leftOver, fedBy, outAfter, closedBy, outClosed}
+use Rattle.sheet.proofs.Machine.{pieces, settled}
 use Rattle.sheet.proofs.Small.{slot-inside, small-refusal, small-answer, live-inside, timers-kept}
 
 pub laws : Laws
 laws = record {
   pieces = pieces;
+  settled = settled;
   small-slot = λ b d t l e. omega (arith, slot-inside b d t e);
   small-refusal = small-refusal;
   small-answer = small-answer;
@@ -19,6 +20,9 @@ laws = record {
   feed-unique =
       λ s piece out at.
       paired (λ r. r ≡ fedBy piece out at s) (λ q. q ≡ outAfter piece out at s) (equation (fedBy piece out at s)) (equation (outAfter piece out at s));
+  left-over-unique = λ s. equation (leftOver (s .stage));
   close-unique =
-      λ s out at. paired (λ r. r ≡ closedBy out at s) (λ q. q ≡ outClosed out at s) (equation (closedBy out at s)) (equation (outClosed out at s));
+      λ s ended out at.
+      paired (λ r. r ≡ closedBy ended out at s) (λ q. q ≡ outClosed ended out at s)
+      (equation (closedBy ended out at s)) (equation (outClosed ended out at s));
 }

@@ -72,6 +72,11 @@ closing-short (Packets n) d = omega (arith, last-short (liveCount d))
 closing-short Played d = omega (arith, last-short (liveCount d))
 closing-short LeftOver d = omega (arith, last-short (liveCount d))
 
+end-short : (ended : Bool) (s : Sheet) → length (endTold ended s) ≤ longest
+unfolding endTold
+end-short true s = closing-short (s .stage) (s .desk)
+end-short false s = omega (arith, last-short (liveCount (s .desk)))
+
 -- no item has more bytes than are held
 pub need-small : (st : Stage) → need st ≤ 47
 need-small TimerCount = omega arith
@@ -94,7 +99,7 @@ pub fed : (piece out : List ℕ) (at : ℕ) (s : Sheet) → at + longest * lengt
 unfolding fedBy
 fed piece out at s h = rw (le-leb (at + longest * length piece) (length out) h) (refl, omega (arith, piece-short piece s))
 
-pub closed : (out : List ℕ) (at : ℕ) (s : Sheet) → at + longest ≤ length out →
-    (closedBy out at s .taken ≡ true) × (closedBy out at s .at ≤ at + longest)
-unfolding closedBy endTold
-closed out at s h = rw (le-leb (at + longest) (length out) h) (refl, omega (arith, closing-short (s .stage) (s .desk)))
+pub closed : (ended : Bool) (out : List ℕ) (at : ℕ) (s : Sheet) → at + longest ≤ length out →
+    (closedBy ended out at s .taken ≡ true) × (closedBy ended out at s .at ≤ at + longest)
+unfolding closedBy
+closed ended out at s h = rw (le-leb (at + longest) (length out) h) (refl, omega (arith, end-short ended s))

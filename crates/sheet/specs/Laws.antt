@@ -1,5 +1,6 @@
 -- What is claimed of a sheet. Proved in proofs/Proved.antt.
 use Prim.Native.Nat.{ℕ, _+_, _≤_, _<_}
+use mathlib.Core.Bool.{Bool, true}
 use mathlib.Core.Path.{_≡_}
 use mathlib.Core.List.{List, [], _∷_, _++_}
 use lib.ListN.{length}
@@ -11,8 +12,8 @@ use Rattle.desk.specs.Moments.{liveCount}
 use Rattle.sheet.specs.declared.Sheet.{Sheet}
 use Rattle.sheet.specs.declared.Fed.{Fed}
 use Rattle.sheet.specs.declared.Closed.{Closed}
-use Rattle.sheet.specs.Sheet.{timerLeft, packetLeft, sheetOf}
-use Rattle.sheet.specs.Pieces.{blank, afterPiece, pieceTold, endTold, fedBy, outAfter, closedBy, outClosed}
+use Rattle.sheet.specs.Sheet.{brokenLine, timerLeft, packetLeft, sheetOf}
+use Rattle.sheet.specs.Pieces.{blank, afterPiece, pieceTold, endTold, leftOver, fedBy, outAfter, closedBy, outClosed}
 
 -- pieces of input, put together
 abbrev pub joined : List (List ℕ) → List ℕ
@@ -21,12 +22,14 @@ joined (p ∷ ps) = p ++ joined ps
 
 -- what pieces print one after the other, from a sheet on, and then the input's end
 abbrev pub printed : List (List ℕ) → Sheet → List ℕ
-printed [] s = endTold s
+printed [] s = endTold true s
 printed (p ∷ ps) s = pieceTold p s ++ printed ps (afterPiece p s)
 
 pub record Laws : Type 0 where
   -- however the input arrives in pieces, what is printed is the one definition's
   pub pieces : (ps : List (List ℕ)) → printed ps blank ≡ sheetOf (joined ps)
+  -- once a byte is left over, whatever follows prints `X live` alone, with the count of now: nothing more need be read
+  pub settled : (s : Sheet) (ps : List (List ℕ)) → leftOver (s .stage) ≡ true → printed ps s ≡ brokenLine (s .desk)
   -- no number that a sheet prints is above 16: slots, refusals, answers, and the live timers of sixteen
   pub small-slot : (b : Booking) (d : Desk) (t : Told) → length (d .timers) ≡ 16 → addOf b d ≡ given t → t .says < 16
   pub small-refusal : (b : Booking) (d : Desk) → number (addOf b d) ≤ 16
@@ -37,5 +40,6 @@ pub record Laws : Type 0 where
   pub new-unique : Unique (λ (r : Sheet). r ≡ blank)
   pub feed-unique : (s : Sheet) (piece out : List ℕ) (at : ℕ) →
       Unique {A = Fed × List ℕ} (λ o. (o .0 ≡ fedBy piece out at s) × (o .1 ≡ outAfter piece out at s))
-  pub close-unique : (s : Sheet) (out : List ℕ) (at : ℕ) →
-      Unique {A = Closed × List ℕ} (λ o. (o .0 ≡ closedBy out at s) × (o .1 ≡ outClosed out at s))
+  pub left-over-unique : (s : Sheet) → Unique (λ (r : Bool). r ≡ leftOver (s .stage))
+  pub close-unique : (s : Sheet) (ended : Bool) (out : List ℕ) (at : ℕ) →
+      Unique {A = Closed × List ℕ} (λ o. (o .0 ≡ closedBy ended out at s) × (o .1 ≡ outClosed ended out at s))

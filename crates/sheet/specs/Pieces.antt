@@ -101,9 +101,18 @@ closing (Packets n) d = brokenLine d
 closing Played d = endLine d
 closing LeftOver d = brokenLine d
 
--- what the input's end prints
-unfoldable pub endTold : Sheet → List ℕ
-endTold s = closing (s .stage) (s .desk)
+-- what the input's end prints; input whose end was not seen is short, whatever there was of it
+unfoldable pub endTold : Bool → Sheet → List ℕ
+endTold ended s = cond ended (closing (s .stage) (s .desk)) (brokenLine (s .desk))
+
+-- whether a byte is left over: what follows changes nothing (law `settled`)
+abbrev pub leftOver : Stage → Bool
+leftOver TimerCount = false
+leftOver (Timers n) = false
+leftOver PacketCount = false
+leftOver (Packets n) = false
+leftOver Played = false
+leftOver LeftOver = true
 
 -- a sheet of which nothing has arrived
 abbrev pub blank : Sheet
@@ -127,9 +136,9 @@ unfoldable pub outAfter : List ℕ → List ℕ → ℕ → Sheet → List ℕ
 outAfter piece out at s = cond (hasRoom out at (length piece)) (sets out at (pieceTold piece s)) out
 
 -- the input's end prints its line where there is room, and else nothing changes
-unfoldable pub closedBy : List ℕ → ℕ → Sheet → Closed
-closedBy out at s =
-    cond (hasRoom out at 1) (record { taken = true; at = at + length (endTold s) }) (record { taken = false; at = at })
+unfoldable pub closedBy : Bool → List ℕ → ℕ → Sheet → Closed
+closedBy ended out at s =
+    cond (hasRoom out at 1) (record { taken = true; at = at + length (endTold ended s) }) (record { taken = false; at = at })
 
-unfoldable pub outClosed : List ℕ → ℕ → Sheet → List ℕ
-outClosed out at s = cond (hasRoom out at 1) (sets out at (endTold s)) out
+unfoldable pub outClosed : Bool → List ℕ → ℕ → Sheet → List ℕ
+outClosed ended out at s = cond (hasRoom out at 1) (sets out at (endTold ended s)) out

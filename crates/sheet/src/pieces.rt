@@ -1,6 +1,6 @@
 // A sheet, fed piece by piece, and closed.
 ghost use Prim.Native.Nat.{ℕ, _+_, _*_, _≤_};
-ghost use mathlib.Core.Bool.{true, false};
+ghost use mathlib.Core.Bool.{true, false, cond};
 ghost use mathlib.Core.Path.{_≡_};
 ghost use mathlib.Core.List.{List, _∷_, [], _++_};
 ghost use lib.Dec.{leb};
@@ -8,8 +8,8 @@ ghost use lib.ListN.{length, set};
 ghost use lib.Seq.{sets};
 ghost use Rattle.desk.specs.declared.Desk.{Desk};
 ghost use Rattle.desk.specs.Moments.{liveCount};
-ghost use Rattle.sheet.specs.Sheet.{decimal, space, lineFeed};
-ghost use Rattle.sheet.specs.Pieces.{need, deskAfter, told, afterPiece, pieceTold, closing, blank, longest, fedBy, outAfter, closedBy, outClosed};
+ghost use Rattle.sheet.specs.Sheet.{decimal, space, lineFeed, brokenLine};
+ghost use Rattle.sheet.specs.Pieces.{need, deskAfter, told, afterPiece, pieceTold, closing, blank, leftOver, longest, fedBy, outAfter, closedBy, outClosed};
 use crate::Closed;
 use crate::Fed;
 use crate::Sheet;
@@ -70,9 +70,13 @@ fn hold(held: [u8; 47], have: usize, b: u8) -> [u8; 47]
 }
 
 // 'Input that is short, a count included, or has a byte left over ends with `X live` in place of `Z live`.'
-fn letter(stage: Stage) -> u8
-    ensures { λ r. ⌜ ((d : Desk) → closing stage d ≡ r ∷ space ∷ decimal (liveCount d) ++ (lineFeed ∷ [])) ⌝ }
+// Where the input's end was not seen, it is short.
+fn letter(stage: Stage, ended: bool) -> u8
+    ensures { λ r. ⌜ ((d : Desk) → cond ended (closing stage d) (brokenLine d) ≡ r ∷ space ∷ decimal (liveCount d) ++ (lineFeed ∷ [])) ⌝ }
 {
+    if !ended {
+        return b'X';
+    }
     match stage {
         Stage::TimerCount => b'X',
         Stage::Timers(_) => b'X',
@@ -155,16 +159,31 @@ impl Sheet {
         }
     }
 
-    // The input's end prints the last line, where it fits.
-    pub fn close(self, out: &mut [u8], at: usize) -> Closed
-        ensures { λ r. ⌜ (r ≡ closedBy (now (out .entry)) at self) × (now (out .exit) ≡ outClosed (now (out .entry)) at self) ⌝ }
+    // Whether a byte is left over. Whatever follows, `X live` is then the one line more (law `settled`).
+    pub fn left_over(self) -> bool
+        ensures { λ r. ⌜ r ≡ leftOver (self .stage) ⌝ }
+    {
+        let stage = self.stage;
+        match stage {
+            Stage::TimerCount => false,
+            Stage::Timers(_) => false,
+            Stage::PacketCount => false,
+            Stage::Packets(_) => false,
+            Stage::Played => false,
+            Stage::LeftOver => true,
+        }
+    }
+
+    // The input's end, or what is told as ended though its end was not seen, prints the last line, where it fits.
+    pub fn close(self, ended: bool, out: &mut [u8], at: usize) -> Closed
+        ensures { λ r. ⌜ (r ≡ closedBy ended (now (out .entry)) at self) × (now (out .exit) ≡ outClosed ended (now (out .entry)) at self) ⌝ }
     {
         let fits = has_room(out.len(), at, 1);
         if fits {
             let desk = self.desk;
             let stage = self.stage;
             let live = desk.live();
-            let next = last_line(out, at, letter(stage), live);
+            let next = last_line(out, at, letter(stage, ended), live);
             return Closed {
                 taken: true,
                 at: next,

@@ -2,8 +2,9 @@
 //! the loader, the C library and the program are translated each time. Here the program's `main` is called as it stands, for each
 //! sheet in a process of its own, forked from one that has the translation.
 //!
-//! Standard input has the sheets, each behind two numbers of four bytes: how much one read gives at most, and the sheet's length.
-//! Standard output has what each prints, and after it a line with the status of its process.
+//! Standard input has the sheets, each behind four numbers of four bytes: how much one read gives at most, how many reads are
+//! interrupted before each one that is not, the error of the read at the sheet's end, which is 0 where there is none, and the sheet's
+//! length. Standard output has what each prints, and after it a line with the status of its process.
 use std::fs::File;
 use std::io::{BufReader, Read, Seek, Write};
 use std::os::raw::{c_char, c_int, c_long, c_uint, c_void};
@@ -14,6 +15,7 @@ type Main = extern "C" fn(c_int, Words, Words) -> c_int;
 type Start = extern "C" fn(Main, c_int, Words, *const c_void, *const c_void, *const c_void, *const c_void) -> c_int;
 
 extern "C" {
+    fn __errno_location() -> *mut c_int;
     fn dlsym(library: *const c_void, name: *const c_char) -> *const c_void;
     fn dup(from: c_int) -> c_int;
     fn dup2(from: c_int, to: c_int) -> c_int;
@@ -28,11 +30,21 @@ extern "C" {
 const NEXT: *const c_void = -1isize as *const c_void;
 const READ: c_long = 0;
 const KILLED: c_int = 9;
+const INTERRUPTED: c_int = 4;
 /// So many sheets are played here too, to nowhere, for the translation.
 const FIRST: usize = 8;
 
 static mut PROGRAM: Option<Main> = None;
-static mut AT_MOST: usize = usize::MAX;
+static mut READS: Reads = Reads { at_most: usize::MAX, interrupted: 0, error: 0 };
+/// So many of the next reads are interrupted.
+static mut NEXT_INTERRUPTED: usize = 0;
+
+#[derive(Clone, Copy)]
+struct Reads {
+    at_most: usize,
+    interrupted: usize,
+    error: c_int,
+}
 
 /// The C library's start of a program, with another `main`.
 ///
@@ -53,13 +65,26 @@ pub unsafe extern "C" fn __libc_start_main(
     start(play_each, argc, argv, init, fini, loader_fini, stack_end)
 }
 
-/// The C library's, which gives less where a sheet is to come in small pieces.
+/// The C library's, which gives less where a sheet is to come in small pieces, and fails where it is to fail.
 ///
 /// # Safety
 /// That of the C library's.
 #[no_mangle]
 pub unsafe extern "C" fn read(file: c_int, into: *mut c_void, room: usize) -> isize {
-    syscall(READ, file, into, room.min(AT_MOST)) as isize
+    if NEXT_INTERRUPTED > 0 {
+        NEXT_INTERRUPTED -= 1;
+        return failed(INTERRUPTED);
+    }
+    NEXT_INTERRUPTED = READS.interrupted;
+    match syscall(READ, file, into, room.min(READS.at_most)) {
+        0 if READS.error != 0 => failed(READS.error),
+        got => got as isize,
+    }
+}
+
+unsafe fn failed(error: c_int) -> isize {
+    *__errno_location() = error;
+    -1
 }
 
 extern "C" fn play_each(argc: c_int, argv: Words, env: Words) -> c_int {
@@ -68,11 +93,11 @@ extern "C" fn play_each(argc: c_int, argv: Words, env: Words) -> c_int {
     let (mut sheets, out) = (BufReader::new(duplicate(0)), duplicate(1));
     let nowhere = File::create("/dev/null").unwrap();
     let mut played = 0;
-    while let Some((at_most, bytes)) = next(&mut sheets) {
+    while let Some((reads, bytes)) = next(&mut sheets) {
         let mut sheet = file_of(&bytes);
         put(&sheet, 0);
         let ended = in_a_process(|| {
-            unsafe { AT_MOST = at_most };
+            unsafe { (READS, NEXT_INTERRUPTED) = (reads, reads.interrupted) };
             say(&out, play());
         });
         if ended != KILLED {
@@ -88,17 +113,17 @@ extern "C" fn play_each(argc: c_int, argv: Words, env: Words) -> c_int {
     0
 }
 
-/// The next sheet, behind how much one read gives of it.
-fn next(sheets: &mut impl Read) -> Option<(usize, Vec<u8>)> {
+/// The next sheet, behind how it is read.
+fn next(sheets: &mut impl Read) -> Option<(Reads, Vec<u8>)> {
     let mut number = || {
         let mut bytes = [0; 4];
         sheets.read_exact(&mut bytes).ok()?;
         Some(u32::from_be_bytes(bytes) as usize)
     };
-    let (at_most, length) = (number()?, number()?);
-    let mut bytes = vec![0; length];
+    let reads = Reads { at_most: number()?, interrupted: number()?, error: number()? as c_int };
+    let mut bytes = vec![0; number()?];
     sheets.read_exact(&mut bytes).ok()?;
-    Some((at_most, bytes))
+    Some((reads, bytes))
 }
 
 /// A file without a name, to be read from its start.

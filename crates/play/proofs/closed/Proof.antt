@@ -15,7 +15,7 @@ returns c =
     let f = c .before .before in
     let s = f .before .before .before in
     let a = s .args in
-    rw (f .close .ensures .0) (closed (a .out .now) (a .at) (a .sheet) (s .pre))
+    rw (f .close .ensures .0) (closed (a .ended) (a .out .now) (a .at) (a .sheet) (s .pre))
 
 pub closed-spec : {M : Type 1} → statement M
 closed-spec = tie.close (tie.spec close-requires same-length returns)

@@ -1,4 +1,5 @@
--- `main`'s loop: at each turn the buffer has room for what a whole piece prints. The measure is the number of turns that are left.
+-- `main`'s loop: at each turn the buffer has room for what a whole piece prints. The measure is
+-- how many bytes may still decide something.
 use borrow.Author.Needs.{needs}
 use Prim.Native.Nat.{_*_, _≤_}
 use mathlib.Core.Path.{_≡_}
@@ -8,10 +9,10 @@ use Rattle.play.proofs.main.Statement.{statement}
 use Rattle.play.proofs.main.Tie as tie
 
 abbrev Inv-loop : tie.InvT-loop
-Inv-loop out₀ sheet₀ at₀ turns₀ out sheet at turns = (length out ≡ 65536) × (at ≤ longest * 4096)
+Inv-loop out₀ sheet₀ at₀ left₀ ended₀ out sheet at left ended = (length out ≡ 65536) × (at ≤ longest * 4096)
 
 abbrev μ-loop : tie.MeasureT-loop
-μ-loop out₀ sheet₀ at₀ turns₀ out sheet at turns = turns
+μ-loop out₀ sheet₀ at₀ left₀ ended₀ out sheet at left ended = left
 
 large-buffer-requires : tie.Need-large-buffer-requires Inv-loop μ-loop
 large-buffer-requires c κs = search needs
@@ -37,8 +38,11 @@ flush-requires c κs = search needs
 returns : tie.Need-returns Inv-loop μ-loop
 returns c = search needs
 
-left-requires : tie.Need-left-requires Inv-loop μ-loop
-left-requires c κs = search needs
+left-over-requires : tie.Need-left-over-requires Inv-loop μ-loop
+left-over-requires c κs = search needs
+
+deciding-requires : tie.Need-deciding-requires Inv-loop μ-loop
+deciding-requires c κs = search needs
 
 loop-less : tie.Need-loop-less Inv-loop μ-loop
 loop-less c = search needs
@@ -75,7 +79,8 @@ main-spec =
     slice-aggregate-flush
     flush-requires
     returns
-    left-requires
+    left-over-requires
+    deciding-requires
     loop-less
     loop-again
     slice-aggregate-closed
