@@ -1,7 +1,9 @@
 -- The laws of the desk.
-use Rattle.answer.specs.Answer.{number}
-use Rattle.answer.proofs.Answers.{equation}
+use mathlib.Core.Path.{_≡_}
+use Rattle.answer.specs.Answer.{number, after}
+use Rattle.answer.proofs.Answers.{equation, paired}
 use Rattle.desk.specs.Moments.{fresh, liveCount}
+use Rattle.desk.specs.Calls.{packetOf}
 use Rattle.desk.specs.Numbers.{packetRefusal, packetNumber, waitAnswer, addAnswer, cancelNumber, stateSays, askAnswer, secondNumber}
 use Rattle.desk.specs.Laws.{Laws}
 use Rattle.desk.proofs.Settle.{moment-settled}
@@ -11,7 +13,10 @@ pub laws : Laws
 laws = record {
   twice = moment-settled;
   new-unique = equation fresh;
-  packet-unique = packet-unique;
+  packet-unique =
+      λ d tuner t bytes.
+      paired (λ r. (packetNumber (r .answer) ≡ number (packetOf tuner t bytes d)) × (r .desk ≡ after d (packetOf tuner t bytes d))) (λ q. q ≡ bytes)
+      (packet-unique d tuner t bytes) (equation bytes);
   wait-unique = wait-unique;
   second-unique = second-unique;
   add-unique = add-unique;

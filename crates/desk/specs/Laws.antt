@@ -28,7 +28,7 @@ pub record Laws : Type 0 where
   -- each call's promise allows one outcome
   pub new-unique : Unique (λ (r : Desk). r ≡ fresh)
   pub packet-unique : (d : Desk) (tuner t : ℕ) (bytes : List ℕ) →
-      Unique (λ (r : Heard). (packetNumber (r .answer) ≡ number (packetOf tuner t bytes d)) × (r .desk ≡ after d (packetOf tuner t bytes d)))
+      Unique {A = Heard × List ℕ} (λ o. ((packetNumber (o .0 .answer) ≡ number (packetOf tuner t bytes d)) × (o .0 .desk ≡ after d (packetOf tuner t bytes d))) × (o .1 ≡ bytes))
   pub wait-unique : (d : Desk) (t : ℕ) → Unique (λ (r : Waited). (waitAnswer (r .answer) ≡ saidBy (waitOf t d)) × (r .desk ≡ leftBy d (waitOf t d)))
   pub second-unique : (d : Desk) → Unique (λ (r : Passed). (secondNumber (r .answer) ≡ number (secondOf d)) × (r .desk ≡ after d (secondOf d)))
   pub add-unique : (d : Desk) (b : Booking) → Unique (λ (r : Added). (addAnswer (r .answer) ≡ saidBy (addOf b d)) × (r .desk ≡ leftBy d (addOf b d)))

@@ -99,6 +99,7 @@ impl Desk {
     pub fn packet(self, tuner: u8, time: u32, bytes: &[u8]) -> Heard
         ensures { λ r. ⌜ (packetNumber (r .answer) ≡ number (packetOf tuner time (now (bytes .entry)) self))
             × (r .desk ≡ after self (packetOf tuner time (now (bytes .entry)) self)) ⌝ }
+        ensures { λ r. ⌜ now (bytes .exit) ≡ now (bytes .entry) ⌝ }
     {
         let barred = self.barred(tuner, time);
         match barred {

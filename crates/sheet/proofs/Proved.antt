@@ -19,7 +19,9 @@ laws = record {
   new-unique = equation blank;
   feed-unique =
       λ s piece out at.
-      paired (λ r. r ≡ fedBy piece out at s) (λ q. q ≡ outAfter piece out at s) (equation (fedBy piece out at s)) (equation (outAfter piece out at s));
+      paired (λ r. (r .0 ≡ fedBy piece out at s) × (r .1 ≡ outAfter piece out at s)) (λ p. p ≡ piece)
+      (paired (λ r. r ≡ fedBy piece out at s) (λ q. q ≡ outAfter piece out at s) (equation (fedBy piece out at s)) (equation (outAfter piece out at s)))
+      (equation piece);
   left-over-unique = λ s. equation (leftOver (s .stage));
   close-unique =
       λ s ended out at.

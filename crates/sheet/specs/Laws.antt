@@ -39,7 +39,7 @@ pub record Laws : Type 0 where
   -- each call's promise allows one outcome
   pub new-unique : Unique (λ (r : Sheet). r ≡ blank)
   pub feed-unique : (s : Sheet) (piece out : List ℕ) (at : ℕ) →
-      Unique {A = Fed × List ℕ} (λ o. (o .0 ≡ fedBy piece out at s) × (o .1 ≡ outAfter piece out at s))
+      Unique {A = (Fed × List ℕ) × List ℕ} (λ o. ((o .0 .0 ≡ fedBy piece out at s) × (o .0 .1 ≡ outAfter piece out at s)) × (o .1 ≡ piece))
   pub left-over-unique : (s : Sheet) → Unique (λ (r : Bool). r ≡ leftOver (s .stage))
   pub close-unique : (s : Sheet) (ended : Bool) (out : List ℕ) (at : ℕ) →
       Unique {A = Closed × List ℕ} (λ o. (o .0 ≡ closedBy ended out at s) × (o .1 ≡ outClosed ended out at s))

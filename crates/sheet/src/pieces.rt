@@ -147,6 +147,7 @@ impl Sheet {
     pub fn feed(self, piece: &[u8], out: &mut [u8], at: usize) -> Fed
         ensures { λ r. ⌜ (r ≡ fedBy (now (piece .entry)) (now (out .entry)) at self)
             × (now (out .exit) ≡ outAfter (now (piece .entry)) (now (out .entry)) at self) ⌝ }
+        ensures { λ r. ⌜ now (piece .exit) ≡ now (piece .entry) ⌝ }
     {
         let fits = has_room(out.len(), at, piece.len());
         if fits {

@@ -15,7 +15,7 @@ returns c =
     let f = c .before .before in
     let s = f .before .before .before .before in
     let a = s .args in
-    rw (f .feed .ensures .0) (fed (a .piece .now) (a .out .now) (a .at) (a .sheet) (s .pre))
+    rw (f .feed .ensures .0 .0) (fed (a .piece .now) (a .out .now) (a .at) (a .sheet) (s .pre))
 
 pub taken-spec : {M : Type 1} → statement M
 taken-spec = tie.close (tie.spec feed-requires same-length returns)

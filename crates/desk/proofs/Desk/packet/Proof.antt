@@ -40,7 +40,7 @@ returns c =
     let b = k .before .before in
     let a = b .before .before .args in
     rw (gate-shut (a .self) (a .bytes .now) (a .self) (a .tuner) (a .time) (b .barred .ensures) _ (k .barred2 .given .1), c .refuse .ensures)
-    (refl, refl)
+    ((refl, refl), refl)
 
 returns-2 : tie.Need-returns-2
 unfolding packetOf
@@ -56,7 +56,7 @@ returns-2 c =
       k .reading .given .1,
       c .refuse2 .ensures,
     )
-    (refl, refl)
+    ((refl, refl), refl)
 
 returns-3 : tie.Need-returns-3
 unfolding packetOf
@@ -72,7 +72,7 @@ returns-3 c =
       ← r .read .ensures .0,
       c .before .before .reading2 .given .1,
     )
-    (rw (hearing-open (a .tuner) (a .time) l (a .self) e) at (c .hear .ensures))
+    (rw (hearing-open (a .tuner) (a .time) l (a .self) e) at (c .hear .ensures), refl)
 
 pub packet-spec : {M : Type 1} → statement M
 packet-spec =

@@ -20,11 +20,11 @@ unfolding fedBy outAfter
 returns c =
     let p = c .before .before in
     let t = p .before .before in
-    rw (sym (t .before .has-room .ensures) ∙ t .if1 .taken) (p .play .ensures)
+    rw (sym (t .before .has-room .ensures) ∙ t .if1 .taken) (p .play .ensures, refl)
 
 returns-2 : tie.Need-returns-2
 unfolding fedBy outAfter
-returns-2 c = rw (sym (c .before .has-room .ensures) ∙ c .if1 .left) (refl, refl)
+returns-2 c = rw (sym (c .before .has-room .ensures) ∙ c .if1 .left) ((refl, refl), refl)
 
 pub feed-spec : {M : Type 1} → statement M
 feed-spec = tie.close (tie.spec has-room-requires play-requires same-length returns returns-2)

@@ -69,8 +69,8 @@ returns c =
     let heard = number .before .before in
     rw (
       ← asked heard,
-      ← heard .packet .ensures .1,
-      ← heard .packet .ensures .0,
+      ← heard .packet .ensures .0 .1,
+      ← heard .packet .ensures .0 .0,
       ← number .number .ensures,
       ← live .live .ensures,
       line .packet-line .ensures .0,
