@@ -1,6 +1,10 @@
 -- Each exit is a row of the table, or the slot that is taken.
-use mathlib.Core.Path.{refl}
+use mathlib.Core.Bool.{true, _&&_}
+use mathlib.Core.Path.{_≡_, refl}
 use borrow.Author.Tests.{le-leb, lt-leb}
+use lib.Dec.{leb}
+use Rattle.answer.specs.Lists.{some}
+use Rattle.sixteen.specs.Sixteen.{active, sameBooking}
 use Rattle.desk.specs.Calls.{roomIn}
 use borrow.Author.Needs.{needs}
 use Rattle.desk.proofs.Desk.book.Statement.{statement}
@@ -10,7 +14,10 @@ not-added-requires : tie.Need-not-added-requires
 not-added-requires c κs = search needs
 
 returns : tie.Need-returns
-returns c = rw (le-leb _ _ (c .before .if1 .taken), c .not-added .ensures) (refl, refl)
+returns c =
+    let a = c .before .before .before .before .args in
+    let ended : leb (a .w .closes) (a .self .clock) ≡ true = le-leb _ _ (c .before .if1 .taken) in
+    rw (ended, c .not-added .ensures) (refl, refl)
 
 any-holds-requires : tie.Need-any-holds-requires
 any-holds-requires c κs = search needs
@@ -21,7 +28,9 @@ not-added-requires-2 c κs = search needs
 returns-2 : tie.Need-returns-2
 returns-2 c =
     let b = c .before .before in
-    rw (lt-leb _ _ (b .before .before .if1 .left), ← b .any-holds .ensures, c .before .if2 .taken, c .not-added2 .ensures) (refl, refl)
+    let a = b .before .before .before .before .before .args in
+    let twin : b .any-holds .result ≡ some (λ t. active (a .self .clock) t && sameBooking (a .b) (t .booking)) (a .self .timers) = b .any-holds .ensures in
+    rw (lt-leb _ _ (b .before .before .if1 .left), ← twin, c .before .if2 .taken, c .not-added2 .ensures) (refl, refl)
 
 room-requires : tie.Need-room-requires
 room-requires c κs = search needs
