@@ -3,3 +3,4 @@ pub mod Search
 pub mod Mapped
 pub mod Sights
 pub mod Steps
+pub mod Proved
