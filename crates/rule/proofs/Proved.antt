@@ -4,9 +4,14 @@ use Rattle.answer.specs.Lists.{some}
 use Rattle.answer.proofs.Answers.{equation}
 use Rattle.rule.specs.Rule.{noLabel, stands, heardAt, endedAt, nextTimer, held, isLive}
 use Rattle.rule.specs.Laws.{Laws}
+use Rattle.rule.proofs.Codes.{codes-stand, codes-match-nothing, unreal-matches-nothing, refused-matches-nothing}
 
 pub laws : Laws
 laws = record {
+  codes-stand = codes-stand;
+  codes-match-nothing = codes-match-nothing;
+  unreal-matches-nothing = unreal-matches-nothing;
+  refused-matches-nothing = refused-matches-nothing;
   no-label-unique = equation noLabel;
   stands-unique = λ s l. equation (stands s l);
   heard-at-unique = λ t l old. equation (heardAt t l old);
