@@ -3,3 +3,5 @@ pub mod Search
 pub mod Mapped
 pub mod Sights
 pub mod Steps
+pub mod Codes
+pub mod Proved

@@ -50,10 +50,13 @@ fn moves_or(places: [Stamped; 16], seen: Sight, next: Copy) -> Copy
 fn from_recording(s: u32, places: [Stamped; 16], b: Booking, p: u8, mi: bool) -> Copy
     ensures { λ r. ⌜ r ≡ nextCopy s places b (Copy.Recording p mi) ⌝ }
 {
-    let l = label_at(places, p as usize);
-    let still = matches(s, b, l);
+    let own = label_at(places, p as usize);
+    let still = matches(s, b, own);
     if still {
-        return Copy::Recording { place: p, mi: l.mi };
+        return Copy::Recording {
+            place: p,
+            mi: own.mi,
+        };
     }
     let over = ended_at(s, b);
     if over {

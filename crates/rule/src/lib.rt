@@ -1,4 +1,8 @@
 // The second-by-second rule for one timer: what stands at the places, what matches, and how its copy goes on at a moment.
+ghost use mathlib.Core.Bool.{true};
+ghost use mathlib.Core.Path.{_≡_};
+ghost use Rattle.rule.specs.Laws.{Laws};
+
 pub mod copies; // how a copy goes on at a moment
 pub mod matching; // windows, matches, and what a timer sees
 pub mod places; // the sixteen places as an array
@@ -43,4 +47,11 @@ pub enum Sight {
     Nothing,
     Prepare,
     Start(u8),
+}
+
+// The laws of the rule for one timer, as a promise of the crate.
+pub fn lawful() -> bool
+    ensures { λ r. ⌜ (r ≡ true) × Laws ⌝ }
+{
+    true
 }

@@ -1,5 +1,5 @@
 -- Each exit is a case of the definition; `Ages.below` carries the test.
-use Prim.Native.Nat.{_-_}
+use Prim.Native.Nat.{_+_}
 use mathlib.Core.Bool.{true, false}
 use mathlib.Core.Path.{_≡_, refl, sym, _∙_}
 use native.Mathlib.Omega.{arith}
@@ -36,8 +36,8 @@ returns-2 c =
     let o = v .before .before in
     let a = o .before .args in
     let lasts : endedAt (a .s) (a .b) ≡ false = sym (o .ended-at .ensures) ∙ v .before .if1 .left in
-    let on : ltb (a .s - a .v) runFor ≡ true = sym (below (a .s) (a .v) runFor (omega arith)) ∙ c .before .if2 .taken in
-    rw (running-on (a .s) (a .places) (a .b) (a .p) (a .v) lasts, on, ← v .sight-of .ensures) (c .moves-or .ensures)
+    let on : ltb (a .s) (a .v + runFor) ≡ true = c .before .if2 .taken in
+    rw (running-on (a .s) (a .places) (a .b) (a .p) (a .v) lasts, ← below (a .s) (a .v) runFor (omega arith), on, ← v .sight-of .ensures) (c .moves-or .ensures)
 
 not-live-requires : tie.Need-not-live-requires
 not-live-requires c κs = search needs
@@ -49,8 +49,8 @@ returns-3 c =
     let o = v .before .before in
     let a = o .before .args in
     let lasts : endedAt (a .s) (a .b) ≡ false = sym (o .ended-at .ensures) ∙ v .before .if1 .left in
-    let out : ltb (a .s - a .v) runFor ≡ false = sym (below (a .s) (a .v) runFor (omega arith)) ∙ c .before .if2 .left in
-    rw (running-on (a .s) (a .places) (a .b) (a .p) (a .v) lasts, out, ← v .sight-of .ensures, moves-not-live) (c .not-live .ensures)
+    let out : ltb (a .s) (a .v + runFor) ≡ false = c .before .if2 .left in
+    rw (running-on (a .s) (a .places) (a .b) (a .p) (a .v) lasts, ← below (a .s) (a .v) runFor (omega arith), out, ← v .sight-of .ensures, moves-not-live) (c .not-live .ensures)
 
 pub from-running-on-spec : {M : Type 1} → statement M
 from-running-on-spec =

@@ -1,4 +1,5 @@
 -- By whether the booking is real.
+use mathlib.Core.Path.{refl}
 use Rattle.rule.specs.Rule.{openAt}
 use borrow.Author.Needs.{needs}
 use Rattle.rule.proofs.matching.open_at.Statement.{statement}
@@ -19,7 +20,7 @@ returns c = rw (← c .before .before .window-of .ensures, c .enum-told .given .
 
 returns-2 : tie.Need-returns-2
 unfolding openAt
-returns-2 c = let b = c .before .before .before in rw (← b .before .before .window-of .ensures, b .validity .given .1)
+returns-2 c = let b = c .before .before .before in rw (← b .before .before .window-of .ensures, b .validity .given .1) refl
 
 pub open-at-spec : {M : Type 1} → statement M
 open-at-spec =

@@ -1,4 +1,5 @@
 -- `Ages.at-most` carries it: the sum stands for the difference.
+use mathlib.Core.Path.{refl}
 use Rattle.rule.specs.Rule.{stands}
 use Rattle.rule.proofs.Ages.{at-most}
 use borrow.Author.Needs.{needs}
@@ -13,7 +14,7 @@ add-young c = search needs
 
 returns : tie.Need-returns
 unfolding stands
-returns c = rw at-most
+returns c = rw at-most refl
 
 pub stands-spec : {M : Type 1} → statement M
 stands-spec = tie.close (tie.spec cast-young add-young returns)
