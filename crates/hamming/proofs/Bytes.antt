@@ -138,7 +138,7 @@ two b v p q e =
 
 -- ── the search of `decode` ─────────────────────────────────────────────────────────────────────────────────────────
 -- the value of a byte's own data bits
-abbrev pub own : ℕ → ℕ
+abbrev own : ℕ → ℕ
 own b = b / 2 % 2 + b / 8 % 2 * 2 + b / 32 % 2 * 4 + b / 128 * 8
 
 abbrev flips : List ℕ

@@ -23,7 +23,7 @@ use Rattle.label.proofs.Places.{sentBytes, field-same}
 by-nibbles : (p q : List ℕ) → length p ≡ length q → AtEach (λ i. nibbleAt p i ≡ nibbleAt q i) → readingOf p ≡ readingOf q
 unfolding readingOf
 by-nibbles p q h e =
-    let n = unlisted hammingBytes e in
+    let n : All (λ i. nibbleAt p i ≡ nibbleAt q i) (0 ∷ 1 ∷ 2 ∷ labelBytes) = unlisted hammingBytes e in
     let d = some-same (damagedAt p) (damagedAt q) labelBytes
     (all-map (λ i. nibbleAt p i ≡ nibbleAt q i) (λ i. damagedAt p i ≡ damagedAt q i) (λ i e. ap damaged e) labelBytes (n .1 .1 .1)) in
     let v = all-map (λ i. nibbleAt p i ≡ nibbleAt q i) (λ i. valueAt p i ≡ valueAt q i) (λ i e. ap valueOf e) sentBytes (n .1 .1) in
