@@ -1,4 +1,5 @@
-//! What the comparing tests share: the compiled code's calls, the compiled programs, and libzvbi.
+//! What the comparing tests share: the compiled code's calls, the compiled programs, libzvbi, and Annex E.
+pub mod annex;
 pub mod command;
 pub mod ours;
 pub mod play;
