@@ -4,4 +4,6 @@ pub mod command;
 pub mod ours;
 pub mod play;
 pub mod rows;
+pub mod threads;
+pub mod walk;
 pub mod zvbi;

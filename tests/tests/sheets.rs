@@ -1,15 +1,21 @@
-//! The compiled program plays sheets, and prints what the independent desk prints, byte for byte.
+//! The compiled program plays sheets, and prints what the independent desk prints, byte for byte. The independent desk walks every
+//! second, but where a packet is more than a million seconds ahead (`tests/src/walk.rs`): most sheets begin with such a jump.
 //!
 //! `PLAY` names another command than the one that the build leaves; it may have arguments, its path is a whole one, and it is started
 //! for every sheet. `SHEETS` is another number of random sheets.
 use against_the_world::command::WHOLE;
 use against_the_world::play::{self, Given};
+use against_the_world::threads;
+use against_the_world::walk::{self, Walked};
+use independent::desk::Desk;
 use independent::random::Random;
 use independent::{sheet, sheets};
-use std::sync::atomic::{AtomicUsize, Ordering};
 
 /// So many sheets have one start, where each is not to have its own.
 const BATCH: usize = 1_000;
+
+/// So many sheets are walked from the clock's start however long that is.
+const LONG: usize = 2;
 
 #[derive(Clone, Copy)]
 enum Start {
@@ -25,8 +31,8 @@ fn given(n: usize, bytes: Vec<u8>) -> Given {
     Given { bytes, at_most: if n % 8 == 1 { 13 } else { WHOLE } }
 }
 
-fn compare(name: &str, n: usize, sheet: &[u8], printed: &str) {
-    let expected = sheet::play(sheet);
+fn compare(name: &str, n: usize, independent: &mut Desk, sheet: &[u8], printed: &str) {
+    let expected = sheet::play_on(independent, sheet, None);
     if printed != expected {
         let line = printed.lines().zip(expected.lines()).take_while(|(a, b)| a == b).count();
         panic!(
@@ -39,43 +45,52 @@ fn compare(name: &str, n: usize, sheet: &[u8], printed: &str) {
     }
 }
 
-fn batch<F: Fn(usize) -> Vec<u8>>(start: Start, numbers: std::ops::Range<usize>, name: &str, sheet_of: &F) {
-    let sheets: Vec<Given> = numbers.clone().map(|n| given(n, sheet_of(n))).collect();
-    let printed = match start {
-        Start::Own => sheets.iter().map(play::started).collect(),
-        Start::Shared => play::each(&sheets),
-    };
-    for ((n, sheet), printed) in numbers.zip(&sheets).zip(&printed) {
-        compare(name, n, &sheet.bytes, printed);
-    }
-    assert_eq!(printed.len(), sheets.len(), "{name}");
-}
-
-/// Plays each sheet and compares, on as many threads as there are processors.
-fn same<F: Fn(usize) -> Vec<u8> + Sync>(start: Start, count: usize, name: &str, sheet_of: F) {
+/// Plays each sheet and compares, and tells what the independent desks walked.
+fn same<F: Fn(usize) -> Vec<u8> + Sync>(start: Start, count: usize, name: &str, sheet_of: F) -> (u64, u64) {
     let together = match start {
         Start::Own => 1,
         Start::Shared => BATCH,
     };
-    let next = AtomicUsize::new(0);
-    let threads = std::thread::available_parallelism().map_or(2, |n| n.get());
-    std::thread::scope(|scope| {
-        for _ in 0..threads {
-            scope.spawn(|| loop {
-                let from = next.fetch_add(together, Ordering::Relaxed);
-                if from >= count {
-                    break;
-                }
-                batch(start, from..count.min(from + together), name, &sheet_of);
-            });
+    let walked = Walked::default();
+    threads::share(count, together, |numbers| {
+        let sheets: Vec<Given> = numbers.clone().map(|n| given(n, sheet_of(n))).collect();
+        let printed = match start {
+            Start::Own => sheets.iter().map(play::started).collect(),
+            Start::Shared => play::each(&sheets),
+        };
+        for ((n, sheet), printed) in numbers.zip(&sheets).zip(&printed) {
+            let mut independent = walk::desk();
+            compare(name, n, &mut independent, &sheet.bytes, printed);
+            walked.add(&independent);
         }
+        assert_eq!(printed.len(), sheets.len(), "{name}");
     });
+    walked.told()
 }
 
 #[test]
 fn ten_thousand_random_sheets() {
     let count = std::env::var("SHEETS").map_or(sheets::SHEETS as usize, |n| n.parse().unwrap());
-    same(MANY, count, "sheet", |n| sheets::sheet(n as u64));
+    let (seconds, whole) = same(MANY, count, "sheet", |n| sheets::sheet(n as u64));
+    let all = count as u64 >= sheets::SHEETS;
+    assert!(!all || seconds > 100_000_000 && whole > 1_000, "{seconds} seconds walked, {whole} sheets from the clock's start");
+}
+
+/// Sheets that reach the second year and later, walked from the clock's start without a jump.
+#[test]
+fn sheets_of_tens_of_millions_of_seconds() {
+    let reached = |sheet: &[u8]| {
+        let mut desk = Desk::new();
+        sheet::play_on(&mut desk, sheet, None);
+        desk.clock()
+    };
+    let long = (0..sheets::SHEETS).map(sheets::sheet).filter(|sheet| walk::is_long(reached(sheet)));
+    for (n, bytes) in long.take(LONG).enumerate() {
+        let mut independent = walk::every_second();
+        let sheet = Given { bytes, at_most: WHOLE };
+        compare("long sheet", n, &mut independent, &sheet.bytes, &play::started(&sheet));
+        assert!(independent.skipped() == 0 && walk::is_long(independent.clock()));
+    }
 }
 
 /// The start that is shared hides nothing of the program's own.

@@ -2,7 +2,7 @@
 use super::{Label, Recorder, Row, Table};
 use independent::calendar;
 use independent::calls::{Machine, State};
-use independent::desk::{Desk, Pace};
+use independent::desk::Desk;
 use independent::paper;
 
 /// Any number serves, and so does any year in which the days are dates.
@@ -82,8 +82,7 @@ fn line(desk: &Desk, table: &Table, row: &Row) -> String {
 }
 
 /// A line for each row but those that go back in time.
-pub fn lines(table: &Table, pace: Pace) -> Vec<String> {
-    let mut desk = Desk::with(pace, None);
+pub fn lines(table: &Table, mut desk: Desk) -> Vec<String> {
     for event in table.recorders.iter().flat_map(Recorder::timers) {
         let (day, time) = event.rsplit_once(' ').unwrap();
         desk.add(CNI, programme(day, time), YEAR).unwrap();
