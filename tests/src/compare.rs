@@ -1,8 +1,10 @@
 //! Sheets played by the compiled program, or by another command, and by the independent desk: the same, byte for byte.
 use crate::command::WHOLE;
 use crate::play::{self, Given};
+use crate::threads;
+use crate::walk::{self, Walked};
+use independent::desk::Desk;
 use independent::sheet;
-use std::sync::atomic::{AtomicUsize, Ordering};
 
 /// So many sheets have one start, where each is not to have its own.
 const BATCH: usize = 1_000;
@@ -32,8 +34,8 @@ fn given(n: usize, bytes: Vec<u8>) -> Given {
     Given { at_most: if n % 8 == 1 { 13 } else { WHOLE }, ..Given::whole(bytes) }
 }
 
-fn compare(name: &str, n: usize, sheet: &[u8], printed: &str) {
-    let expected = sheet::play(sheet);
+pub fn compare(name: &str, n: usize, independent: &mut Desk, sheet: &[u8], printed: &str) {
+    let expected = sheet::play_on(independent, sheet, None);
     if printed != expected {
         let line = printed.lines().zip(expected.lines()).take_while(|(a, b)| a == b).count();
         panic!(
@@ -46,35 +48,25 @@ fn compare(name: &str, n: usize, sheet: &[u8], printed: &str) {
     }
 }
 
-fn batch<F: Fn(usize) -> Vec<u8>>(start: &Start, numbers: std::ops::Range<usize>, name: &str, sheet_of: &F) {
-    let sheets: Vec<Given> = numbers.clone().map(|n| given(n, sheet_of(n))).collect();
-    let printed = match start {
-        Start::Own(command) => sheets.iter().map(|sheet| play::started(command, sheet)).collect(),
-        Start::Shared => play::each(&sheets),
-    };
-    for ((n, sheet), printed) in numbers.zip(&sheets).zip(&printed) {
-        compare(name, n, &sheet.bytes, printed);
-    }
-    assert_eq!(printed.len(), sheets.len(), "{name}");
-}
-
-/// Plays each sheet and compares, on as many threads as there are processors.
-pub fn same<F: Fn(usize) -> Vec<u8> + Sync>(start: &Start, count: usize, name: &str, sheet_of: F) {
+/// Plays each sheet and compares, and tells what the independent desks walked.
+pub fn same<F: Fn(usize) -> Vec<u8> + Sync>(start: &Start, count: usize, name: &str, sheet_of: F) -> (u64, u64) {
     let together = match start {
         Start::Own(_) => 1,
         Start::Shared => BATCH,
     };
-    let next = AtomicUsize::new(0);
-    let threads = std::thread::available_parallelism().map_or(2, |n| n.get());
-    std::thread::scope(|scope| {
-        for _ in 0..threads {
-            scope.spawn(|| loop {
-                let from = next.fetch_add(together, Ordering::Relaxed);
-                if from >= count {
-                    break;
-                }
-                batch(start, from..count.min(from + together), name, &sheet_of);
-            });
+    let walked = Walked::default();
+    threads::share(count, together, |numbers| {
+        let sheets: Vec<Given> = numbers.clone().map(|n| given(n, sheet_of(n))).collect();
+        let printed = match start {
+            Start::Own(command) => sheets.iter().map(|sheet| play::started(command, sheet)).collect(),
+            Start::Shared => play::each(&sheets),
+        };
+        for ((n, sheet), printed) in numbers.zip(&sheets).zip(&printed) {
+            let mut independent = walk::desk();
+            compare(name, n, &mut independent, &sheet.bytes, printed);
+            walked.add(&independent);
         }
+        assert_eq!(printed.len(), sheets.len(), "{name}");
     });
+    walked.told()
 }

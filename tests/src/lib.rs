@@ -1,7 +1,10 @@
-//! What the comparing tests share: the compiled code's calls, the compiled programs, and libzvbi.
+//! What the comparing tests share: the compiled code's calls, the compiled programs, libzvbi, and Annex E.
+pub mod annex;
 pub mod command;
 pub mod compare;
 pub mod ours;
 pub mod play;
 pub mod rows;
+pub mod threads;
+pub mod walk;
 pub mod zvbi;

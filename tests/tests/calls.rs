@@ -1,14 +1,20 @@
 //! The compiled desk answers rows of calls as the independent desk does: waits and what they walk, timers added and cancelled on the
-//! way, and every slot after every call.
+//! way, and every slot after every call. The independent desk walks every second, but where a call is more than a million seconds
+//! ahead (`tests/src/walk.rs`): most rows begin with such a jump, and a few wait for a year.
 use against_the_world::rows::{self, Answered};
+use against_the_world::threads;
+use against_the_world::walk::{self, Walked};
 use independent::calls::{self, Call, Machine};
 use independent::desk::Desk;
 use independent::sheets;
 
 /// So many rows have one start of the program.
-const BATCH: u64 = 1_000;
+const BATCH: usize = 1_000;
 
-fn compare(seed: u64, calls: &[Call], answers: &str, expected: &str) {
+/// So many rows are walked from the clock's start however long that is.
+const LONG: usize = 2;
+
+fn compare(seed: usize, calls: &[Call], answers: &str, expected: &str) {
     let line = answers.lines().zip(expected.lines()).take_while(|(a, b)| a == b).count();
     assert!(
         answers == expected,
@@ -22,13 +28,37 @@ fn compare(seed: u64, calls: &[Call], answers: &str, expected: &str) {
 /// The rows among which every fault of the independent desk shows that a row of calls can show.
 #[test]
 fn calls_answer_the_same() {
-    for from in (0..sheets::SHEETS).step_by(BATCH as usize) {
-        let made: Vec<Vec<Call>> = (from..from + BATCH).map(calls::calls).collect();
+    let walked = Walked::default();
+    threads::share(sheets::SHEETS as usize, BATCH, |numbers| {
+        let made: Vec<Vec<Call>> = numbers.clone().map(|n| calls::calls(n as u64)).collect();
         let sent: Vec<_> = made.iter().map(|calls| rows::begun(calls).collect()).collect();
-        for (seed, (calls, mut desk)) in (from..).zip(made.iter().zip(rows::answered(&sent))) {
-            compare(seed, calls, &calls::play(&mut desk, calls), &calls::play(&mut Desk::new(), calls));
+        for ((n, calls), mut desk) in numbers.zip(&made).zip(rows::answered(&sent)) {
+            let mut independent = walk::desk();
+            compare(n, calls, &calls::play(&mut desk, calls), &calls::play(&mut independent, calls));
+            walked.add(&independent);
         }
+    });
+    let (seconds, whole) = walked.told();
+    assert!(seconds > 150_000_000 && whole > 900, "{seconds} seconds walked, {whole} rows from the clock's start");
+}
+
+/// Rows that reach the second year and later, walked from the clock's start without a jump.
+#[test]
+fn tens_of_millions_of_seconds_answer_the_same() {
+    let reached = |calls: &[Call]| {
+        let mut desk = Desk::new();
+        calls::play(&mut desk, calls);
+        desk.clock()
+    };
+    let made: Vec<Vec<Call>> =
+        (0..sheets::SHEETS).map(calls::calls).filter(|calls| walk::is_long(reached(calls))).take(LONG).collect();
+    let sent: Vec<_> = made.iter().map(|calls| rows::begun(calls).collect()).collect();
+    for ((n, calls), mut desk) in made.iter().enumerate().zip(rows::answered(&sent)) {
+        let mut independent = walk::every_second();
+        compare(n, calls, &calls::play(&mut desk, calls), &calls::play(&mut independent, calls));
+        assert!(independent.skipped() == 0 && walk::is_long(independent.clock()));
     }
+    assert_eq!(made.len(), LONG);
 }
 
 /// What is live, and every slot.
@@ -38,7 +68,7 @@ fn told<M: Machine>(desk: &M) -> (u8, Vec<Result<calls::State, u8>>) {
 
 fn after_each_second(seed: u64, seconds: usize, desk: &mut Answered) {
     let calls = calls::calls(seed);
-    let mut independent = Desk::new();
+    let mut independent = walk::desk();
     calls::play(&mut independent, &calls);
     calls::play(desk, &calls);
     for second in 0..seconds {
@@ -51,7 +81,7 @@ fn after_each_second(seed: u64, seconds: usize, desk: &mut Answered) {
 fn seconds_answer_the_same_one_by_one() {
     const SECONDS: usize = 40;
     let row = |seed| rows::begun(&calls::calls(seed)).chain(std::iter::repeat(rows::second()).take(SECONDS)).collect();
-    let sent: Vec<_> = (0..BATCH).map(row).collect();
+    let sent: Vec<_> = (0..BATCH as u64).map(row).collect();
     for (seed, mut desk) in (0..).zip(rows::answered(&sent)) {
         after_each_second(seed, SECONDS, &mut desk);
     }

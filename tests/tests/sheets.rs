@@ -1,12 +1,37 @@
-//! The compiled program plays sheets, and prints what the independent desk prints, byte for byte. `tests/src/bin/play_sheets.rs` plays
-//! another number of them, and by another command.
-use against_the_world::compare::{many, own, same};
+//! The compiled program plays sheets, and prints what the independent desk prints, byte for byte. The independent desk walks every
+//! second, but where a packet is more than a million seconds ahead (`tests/src/walk.rs`): most sheets begin with such a jump.
+//! `tests/src/bin/play_sheets.rs` plays another number of them, and by another command.
+use against_the_world::compare::{compare, many, own, same};
+use against_the_world::play::{self, Given};
+use against_the_world::walk;
+use independent::desk::Desk;
 use independent::random::Random;
 use independent::{sheet, sheets};
 
+/// So many sheets are walked from the clock's start however long that is.
+const LONG: usize = 2;
+
 #[test]
 fn ten_thousand_random_sheets() {
-    same(&many(), sheets::SHEETS as usize, "sheet", |n| sheets::sheet(n as u64));
+    let (seconds, whole) = same(&many(), sheets::SHEETS as usize, "sheet", |n| sheets::sheet(n as u64));
+    assert!(seconds > 100_000_000 && whole > 1_000, "{seconds} seconds walked, {whole} sheets from the clock's start");
+}
+
+/// Sheets that reach the second year and later, walked from the clock's start without a jump.
+#[test]
+fn sheets_of_tens_of_millions_of_seconds() {
+    let reached = |sheet: &[u8]| {
+        let mut desk = Desk::new();
+        sheet::play_on(&mut desk, sheet, None);
+        desk.clock()
+    };
+    let long = (0..sheets::SHEETS).map(sheets::sheet).filter(|sheet| walk::is_long(reached(sheet)));
+    for (n, bytes) in long.take(LONG).enumerate() {
+        let mut independent = walk::every_second();
+        let sheet = Given::whole(bytes);
+        compare("long sheet", n, &mut independent, &sheet.bytes, &play::started(&play::program(), &sheet));
+        assert!(independent.skipped() == 0 && walk::is_long(independent.clock()));
+    }
 }
 
 /// The start that is shared hides nothing of the program's own.

@@ -1,5 +1,6 @@
-//! The desk as the paper words it: every second is walked, and at every moment every timer's copy is worked out anew from the
-//! labels that stand. Nothing is kept that could be worked out, but for the window of a timer.
+//! The desk as the paper words it: every second is walked, or those that `Pace` says, and at every moment every timer's copy is worked
+//! out anew from the labels that stand. Nothing is kept that could be worked out, but for the window of a timer and whether anything
+//! stands.
 use crate::calendar::END;
 use crate::calls::{Machine, State};
 use crate::faults::{self, Fault};
@@ -13,11 +14,16 @@ const INTERRUPTION: u8 = 3;
 const CONTINUATION: u8 = 4;
 const NO_SPECIFIC_VALUE: u8 = 5;
 
+/// A call further ahead than this is one that the clock may jump to: some eleven days, longer than any window.
+pub const FAR: u32 = 1_000_000;
+
 /// How seconds are passed.
 #[derive(Clone, Copy, Debug, PartialEq, Eq)]
 pub enum Pace {
     /// Each second is a moment, whatever stands.
     Every,
+    /// Each second up to a call that is not far ahead. Up to another, those until the desk is quiet.
+    Near,
     /// Once a moment has found no label standing and nothing live, every timer waits or has ended. No later second can change
     /// that before a call does: no label can match, and nothing is there that could leave. So the clock alone is put forward.
     Quiet,
@@ -51,7 +57,11 @@ pub struct Desk {
     clock: u32,
     places: [Option<Heard>; 16],
     slots: [Option<Held>; 16],
+    /// No label stands, as each moment finds out once for all timers: none matches, and there is no place to look at.
+    silent: bool,
     pace: Pace,
+    /// How many seconds were no moment.
+    skipped: u64,
     fault: Option<Fault>,
     obeyed: u32,
 }
@@ -62,24 +72,33 @@ impl Desk {
     }
 
     pub fn with(pace: Pace, fault: Option<Fault>) -> Desk {
-        Desk { clock: 0, places: [None; 16], slots: [None; 16], pace, fault, obeyed: 0 }
+        Desk { clock: 0, places: [None; 16], slots: [None; 16], silent: true, pace, skipped: 0, fault, obeyed: 0 }
     }
 
     pub fn clock(&self) -> u32 {
         self.clock
     }
 
+    /// How many seconds the clock was put forward by, none of which was a moment.
+    pub fn skipped(&self) -> u64 {
+        self.skipped
+    }
+
     fn has(&self, fault: Fault) -> bool {
         self.fault == Some(fault)
     }
 
-    fn standing(&self, place: usize) -> Option<Label> {
+    fn stands(&self, heard: &Heard) -> bool {
         let stands = match self.fault {
             Some(Fault::StandsFour) => STANDS - 1,
             Some(Fault::StandsSix) => STANDS + 1,
             _ => STANDS,
         };
-        self.places[place].filter(|heard| self.clock - heard.stamp <= stands).map(|heard| heard.label)
+        self.clock - heard.stamp <= stands
+    }
+
+    fn standing(&self, place: usize) -> Option<Label> {
+        self.places[place].filter(|heard| self.stands(heard)).map(|heard| heard.label)
     }
 
     fn ended(&self, held: &Held) -> bool {
@@ -103,6 +122,9 @@ impl Desk {
 
     /// A recording at the lowest place with a match and PRF 0.
     fn start(&self, held: &Held) -> Option<Copy> {
+        if self.silent {
+            return None;
+        }
         (0..16).find_map(|nth| {
             let place = match self.fault {
                 Some(Fault::HighestPlace) => 15 - nth,
@@ -116,7 +138,7 @@ impl Desk {
 
     fn not_live(&self, held: &Held) -> Copy {
         self.start(held).unwrap_or_else(|| {
-            if (0..16).any(|place| self.matching(place, held).is_some()) {
+            if !self.silent && (0..16).any(|place| self.matching(place, held).is_some()) {
                 Copy::Prepared
             } else {
                 Copy::Waiting
@@ -197,10 +219,11 @@ impl Desk {
     }
 
     fn moment(&mut self) {
+        self.silent = self.nothing_stands();
         for slot in 0..16 {
-            if let Some(mut held) = self.slots[slot] {
-                held.copy = self.next(&held);
-                self.slots[slot] = Some(held);
+            if let Some(held) = &self.slots[slot] {
+                let copy = self.next(held);
+                self.slots[slot].as_mut().unwrap().copy = copy;
             }
         }
     }
@@ -221,7 +244,7 @@ impl Desk {
     }
 
     fn nothing_stands(&self) -> bool {
-        (0..16).all(|place| self.standing(place).is_none())
+        !self.places.iter().flatten().any(|heard| self.stands(heard))
     }
 
     fn nothing_is_live(&self) -> bool {
@@ -239,6 +262,11 @@ impl Desk {
             self.clock = t;
             return whole;
         }
+        let skips = match self.pace {
+            Pace::Every => false,
+            Pace::Near => whole > FAR,
+            Pace::Quiet => true,
+        };
         let mut walked = None;
         for second in 0..=whole {
             if second > 0 {
@@ -248,7 +276,8 @@ impl Desk {
             if walked.is_none() && self.quiet() {
                 walked = Some(second);
             }
-            if self.pace == Pace::Quiet && self.nothing_stands() && self.nothing_is_live() {
+            if skips && self.nothing_stands() && self.nothing_is_live() {
+                self.skipped += (t - self.clock) as u64;
                 self.clock = t;
                 break;
             }

@@ -1,7 +1,7 @@
-//! The independent desk beside itself: every second walked, and quiet seconds skipped.
+//! The independent desk beside itself: every second walked, all but those before a far call, and quiet seconds skipped.
 use independent::calendar::END;
-use independent::calls::{self, Call};
-use independent::desk::{Desk, Pace};
+use independent::calls::{self, Call, Machine};
+use independent::desk::{Desk, Pace, FAR};
 
 /// The latest time that a row of calls can bring the clock to: one past the clock's end is refused.
 fn last_time(calls: &[Call]) -> u32 {
@@ -12,9 +12,9 @@ fn last_time(calls: &[Call]) -> u32 {
     calls.iter().map(time).max().unwrap_or(0)
 }
 
-fn same(seed: u64, calls: &[Call]) {
+fn same(seed: u64, calls: &[Call], pace: Pace) {
     let skipping = calls::play(&mut Desk::with(Pace::Quiet, None), calls);
-    let walking = calls::play(&mut Desk::with(Pace::Every, None), calls);
+    let walking = calls::play(&mut Desk::with(pace, None), calls);
     assert_eq!(skipping, walking, "row {seed}: {calls:?}");
 }
 
@@ -24,13 +24,33 @@ fn skipping_quiet_seconds_changes_nothing() {
     for seed in 0..3_000 {
         let calls = calls::early_calls(seed);
         if last_time(&calls) < 2_000 {
-            same(seed, &calls);
+            same(seed, &calls, Pace::Every);
             short += 1;
         } else if long < 4 && last_time(&calls) < 400_000 {
             // from the clock's start over a whole window
-            same(seed, &calls);
+            same(seed, &calls, Pace::Every);
             long += 1;
         }
     }
     assert!(short > 300 && long == 4, "{short} {long}");
+}
+
+/// A tenth of the rows that the compiled desk answers.
+#[test]
+fn skipping_far_from_the_clocks_start_changes_nothing() {
+    for seed in (0..10_000).step_by(10) {
+        same(seed, &calls::calls(seed), Pace::Near);
+    }
+}
+
+#[test]
+fn what_each_pace_skips() {
+    let whole = FAR as u64;
+    for (pace, near, far) in [(Pace::Every, 0, 0), (Pace::Near, 0, whole + 1), (Pace::Quiet, whole, 2 * whole + 1)] {
+        let mut desk = Desk::with(pace, None);
+        assert_eq!(desk.wait(FAR), Ok(0));
+        assert_eq!(desk.skipped(), near, "{pace:?}");
+        assert_eq!(desk.wait(FAR + FAR + 1), Ok(0));
+        assert_eq!(desk.skipped(), far, "{pace:?}");
+    }
 }

@@ -1,4 +1,6 @@
-//! The ordinary desk beside the independent one, which walks every second: on random sheets and on random rows of calls.
+//! The ordinary desk beside the independent one, on random sheets and on random rows of calls. In one of ten the independent desk walks
+//! every second up to a call that is not more than a million seconds ahead; in the others, and up to calls that are, the clock of a
+//! desk with no label standing and nothing live is put forward.
 use independent::{calendar, calls, desk, paper, random, sheet, sheets};
 
 struct Ordinary(bench::desk::Desk);
@@ -31,12 +33,16 @@ impl calls::Machine for Ordinary {
     }
 }
 
+fn independent_desk(seed: u64) -> desk::Desk {
+    desk::Desk::with(if seed % 10 == 0 { desk::Pace::Near } else { desk::Pace::Quiet }, None)
+}
+
 #[test]
 fn sheets_print_the_same() {
     for seed in 0..sheets::SHEETS {
         let bytes = sheets::sheet(seed);
         let printed = String::from_utf8(bench::sheet::play(&bytes)).unwrap();
-        assert_eq!(printed, sheet::play(&bytes), "sheet {seed}");
+        assert_eq!(printed, sheet::play_on(&mut independent_desk(seed), &bytes, None), "sheet {seed}");
     }
     let largest = sheets::largest(1);
     assert!(bench::sheet::play(&largest) == sheet::play(&largest).into_bytes());
@@ -47,7 +53,7 @@ fn calls_answer_the_same() {
     for seed in 0..sheets::SHEETS {
         let calls = calls::calls(seed);
         let answers = calls::play(&mut Ordinary(bench::desk::Desk::new()), &calls);
-        let expected = calls::play(&mut desk::Desk::new(), &calls);
+        let expected = calls::play(&mut independent_desk(seed), &calls);
         let line = answers.lines().zip(expected.lines()).take_while(|(a, b)| a == b).count();
         assert!(
             answers == expected,
