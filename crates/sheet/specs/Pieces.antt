@@ -39,21 +39,20 @@ stageAfter (Packets n) i = packetsLeft (n - 1)
 stageAfter Played i = LeftOver
 stageAfter LeftOver i = LeftOver
 
+-- the desk that an item leaves, and what it prints: timers and packets do something, the others nothing
+abbrev pub effect : Stage → List ℕ → Desk → Desk × List ℕ
+effect TimerCount i d = (d, [])
+effect (Timers n) i d = (timerLeft i d, timerTold i d)
+effect PacketCount i d = (d, [])
+effect (Packets n) i d = (packetLeft i d, packetTold i d)
+effect Played i d = (d, [])
+effect LeftOver i d = (d, [])
+
 abbrev pub deskAfter : Stage → List ℕ → Desk → Desk
-deskAfter TimerCount i d = d
-deskAfter (Timers n) i d = timerLeft i d
-deskAfter PacketCount i d = d
-deskAfter (Packets n) i d = packetLeft i d
-deskAfter Played i d = d
-deskAfter LeftOver i d = d
+deskAfter st i d = effect st i d .0
 
 abbrev pub told : Stage → List ℕ → Desk → List ℕ
-told TimerCount i d = []
-told (Timers n) i d = timerTold i d
-told PacketCount i d = []
-told (Packets n) i d = packetTold i d
-told Played i d = []
-told LeftOver i d = []
+told st i d = effect st i d .1
 
 -- one more byte is held
 abbrev pub holding : ℕ → Sheet → Sheet

@@ -1,15 +1,15 @@
 // A sheet, fed piece by piece, and closed.
-ghost use Prim.Native.Nat.{ℕ, _+_, _*_, _≤_};
-ghost use mathlib.Core.Bool.{true, false, cond};
+ghost use Prim.Native.Nat.{_+_, _*_, _≤_};
+ghost use mathlib.Core.Bool.{true, cond};
 ghost use mathlib.Core.Path.{_≡_};
-ghost use mathlib.Core.List.{List, _∷_, [], _++_};
+ghost use mathlib.Core.List.{_∷_, [], _++_};
 ghost use lib.Dec.{leb};
 ghost use lib.ListN.{length, set};
 ghost use lib.Seq.{sets};
 ghost use Rattle.desk.specs.declared.Desk.{Desk};
 ghost use Rattle.desk.specs.Moments.{liveCount};
 ghost use Rattle.sheet.specs.Sheet.{decimal, space, lineFeed, brokenLine};
-ghost use Rattle.sheet.specs.Pieces.{need, deskAfter, told, afterPiece, pieceTold, closing, blank, leftOver, longest, fedBy, outAfter, closedBy, outClosed};
+ghost use Rattle.sheet.specs.Pieces.{need, afterPiece, pieceTold, closing, blank, leftOver, longest, fedBy, outAfter, closedBy, outClosed};
 use crate::Closed;
 use crate::Fed;
 use crate::Sheet;
@@ -40,20 +40,6 @@ fn last_place(stage: Stage) -> usize
         Stage::Packets(_) => 46,
         Stage::Played => 0,
         Stage::LeftOver => 0,
-    }
-}
-
-// Whether an item moves the desk and prints: where not, it does neither.
-fn acts(stage: Stage) -> bool
-    ensures { λ r. ⌜ (r ≡ false → (i : List ℕ) (d : Desk) → (deskAfter stage i d ≡ d) × (told stage i d ≡ [])) ⌝ }
-{
-    match stage {
-        Stage::TimerCount => false,
-        Stage::Timers(_) => true,
-        Stage::PacketCount => false,
-        Stage::Packets(_) => true,
-        Stage::Played => false,
-        Stage::LeftOver => false,
     }
 }
 
@@ -100,7 +86,7 @@ impl Sheet {
         }
     }
 
-    // Every byte of a piece that finds room. The desk, which is large, moves only where an item moves it.
+    // Every byte of a piece that finds room.
     fn play(self, piece: &[u8], out: &mut [u8], at: usize) -> Fed
         requires { ⌜ at + longest * length (now piece) ≤ length (now out) ⌝ }
         ensures { λ r. ⌜ (r ≡ record { taken = true; sheet = afterPiece (now (piece .entry)) self; at = at + length (pieceTold (now (piece .entry)) self) })
@@ -120,12 +106,10 @@ impl Sheet {
             } else {
                 held = hold(held, have, b);
                 have = 0;
-                if acts(stage) {
-                    let left = act(desk, stage, held, out, end);
-                    let moved = left.desk;
-                    desk = moved;
-                    end = left.at;
-                }
+                let left = act(desk, stage, held, out, end);
+                let moved = left.desk;
+                desk = moved;
+                end = left.at;
                 stage = stage_after(stage, held);
             }
             i += 1;

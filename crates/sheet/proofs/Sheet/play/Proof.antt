@@ -1,17 +1,13 @@
 -- `play`'s loop: what is left of the piece, fed from here, comes to what the whole piece comes to, and finds room (`Along`).
 -- The measure is what is left of the piece.
 use borrow.Author.Needs.{needs}
-use Prim.Native.Nat.{_+_, _-_}
+use Prim.Native.Nat.{_-_}
 use mathlib.Core.Bool.{true}
 use mathlib.Core.Logic.{⊎-elim}
-use mathlib.Core.Path.{_≡_, refl, sym, ap, _∙_}
-use native.Mathlib.Nat.{add-zero}
+use mathlib.Core.Path.{refl, ap, _∙_}
 use native.Mathlib.Omega.{arith}
-use lib.ListN.{length, take}
-use lib.Seq.{sets}
-use Rattle.sheet.specs.declared.Sheet.{Sheet}
+use lib.ListN.{length}
 use Rattle.sheet.specs.declared.items.Left.{Left}
-use Rattle.sheet.specs.Pieces.{need, deskAfter, told}
 use Rattle.sheet.proofs.Feeding.{Outcome, Along, kept, completed, ended}
 use Rattle.sheet.proofs.Rooms.{need-small}
 use Rattle.sheet.proofs.Sheet.play.Statement.{statement}
@@ -43,9 +39,6 @@ add-have c = omega (arith, need-small (c .before .before .before .before .loop .
 hold-requires : tie.Need-hold-requires Inv-loop μ-loop
 hold-requires c κs = search needs
 
-acts-requires : tie.Need-acts-requires Inv-loop μ-loop
-acts-requires c κs = search needs
-
 act-requires : tie.Need-act-requires Inv-loop μ-loop
 act-requires c κs = omega arith
 
@@ -58,33 +51,6 @@ add-i c = omega arith
 loop-less : tie.Need-loop-less Inv-loop μ-loop
 loop-less c = omega arith
 
--- the sheet at the loop's head
-abbrev sheet : tie.At-loop Inv-loop μ-loop → Sheet
-sheet l = record { desk = l .loop .desk; stage = l .loop .stage; have = l .loop .have; held = l .loop .held }
-
--- where an item has done what it does: the desk, the place and the buffer
-acted : (c : tie.Joined2 Inv-loop μ-loop) →
-    let hold = c .before .before in
-    let l = hold .before .before .before .before .before in
-    let s = sheet l in
-    let item = take (need (s .stage)) (hold .hold .result) in
-    (c .if2 .out ≡ sets (l .loop .out) (l .loop .end) (told (s .stage) item (s .desk)))
-    × (c .if2 .desk ≡ deskAfter (s .stage) item (s .desk))
-    × (c .if2 .end ≡ l .loop .end + length (told (s .stage) item (s .desk)))
-acted c =
-    let hold = c .before .before in
-    let s = sheet (hold .before .before .before .before .before) in
-    ⊎-elim
-    (λ w. (
-      w .6 ∙ w .2 .ensures .1,
-      w .7 ∙ ap (λ (r : Left). r .desk) (w .2 .ensures .0),
-      w .8 ∙ ap (λ (r : Left). r .at) (w .2 .ensures .0),
-    ))
-    (λ w.
-    let q = c .before .acts .ensures (w .0 .left) (take (need (s .stage)) (hold .hold .result)) (s .desk) in
-    (w .1 ∙ rw (q .1), w .2 ∙ sym (q .0), w .3 ∙ rw (q .1, add-zero)))
-    (c .if2 .came)
-
 loop-again : tie.Need-loop-again Inv-loop μ-loop
 loop-again c =
     let turn = c .before .before .before in
@@ -93,10 +59,10 @@ loop-again c =
     (λ w. kept (l .loop .inv)
     (turn .loop-test .taken) (omega arith) (w .1) (w .2) (w .3) (w .4) (w .5) (w .6))
     (λ w.
-    let j = acted (record { before = record { before = record { before = record { before = c .before; if1 = w .0 }; hold = w .1 }; acts = w .2 }; if2 = w .3 }) in
+    let left = w .3 .ensures in
     completed (l .loop .inv)
     (turn .loop-test .taken) (omega arith) (w .1 .result) (w .1 .ensures)
-    (w .5 ∙ j .0) (w .6 ∙ j .1) (w .7 ∙ w .4 .ensures) (w .8) (w .9) (w .10 ∙ j .2))
+    (w .8 ∙ left .1) (w .9 ∙ ap (λ (r : Left). r .desk) (left .0)) (w .10 ∙ w .7 .ensures) (w .11) (w .12) (w .13 ∙ ap (λ (r : Left). r .at) (left .0)))
     (c .if1 .came)
 
 same-length : tie.Need-same-length Inv-loop μ-loop
@@ -120,7 +86,6 @@ play-spec =
     array-write-held
     add-have
     hold-requires
-    acts-requires
     act-requires
     stage-after-requires
     add-i
