@@ -1,5 +1,6 @@
 //! The compiled program plays sheets, and prints what the independent desk prints, byte for byte. The independent desk walks every
-//! second, but where a packet is more than a million seconds ahead (`tests/src/walk.rs`): most sheets begin with such a jump.
+//! second, but where a packet is more than a million seconds ahead and the desk is quiet (`tests/src/walk.rs`): most sheets
+//! begin with such a jump.
 //!
 //! `PLAY` names another command than the one that the build leaves; it may have arguments, its path is a whole one, and it is started
 //! for every sheet. `SHEETS` is another number of random sheets.
@@ -46,7 +47,7 @@ fn compare(name: &str, n: usize, independent: &mut Desk, sheet: &[u8], printed: 
 }
 
 /// Plays each sheet and compares, and tells what the independent desks walked.
-fn same<F: Fn(usize) -> Vec<u8> + Sync>(start: Start, count: usize, name: &str, sheet_of: F) -> (u64, u64) {
+fn same<F: Fn(usize) -> Vec<u8> + Sync>(start: Start, count: usize, name: &str, sheet_of: F) -> Walked {
     let together = match start {
         Start::Own => 1,
         Start::Shared => BATCH,
@@ -65,15 +66,14 @@ fn same<F: Fn(usize) -> Vec<u8> + Sync>(start: Start, count: usize, name: &str, 
         }
         assert_eq!(printed.len(), sheets.len(), "{name}");
     });
-    walked.told()
+    walked
 }
 
 #[test]
 fn ten_thousand_random_sheets() {
     let count = std::env::var("SHEETS").map_or(sheets::SHEETS as usize, |n| n.parse().unwrap());
-    let (seconds, whole) = same(MANY, count, "sheet", |n| sheets::sheet(n as u64));
-    let all = count as u64 >= sheets::SHEETS;
-    assert!(!all || seconds > 100_000_000 && whole > 1_000, "{seconds} seconds walked, {whole} sheets from the clock's start");
+    let walked = same(MANY, count, "sheet", |n| sheets::sheet(n as u64));
+    assert!(walked.is_wide() || (count as u64) < sheets::SHEETS, "{walked:?}");
 }
 
 /// Sheets that reach the second year and later, walked from the clock's start without a jump.
@@ -84,11 +84,13 @@ fn sheets_of_tens_of_millions_of_seconds() {
         sheet::play_on(&mut desk, sheet, None);
         desk.clock()
     };
-    let long = (0..sheets::SHEETS).map(sheets::sheet).filter(|sheet| walk::is_long(reached(sheet)));
-    for (n, bytes) in long.take(LONG).enumerate() {
+    let made = (0..sheets::SHEETS as usize).map(|n| (n, sheets::sheet(n as u64)));
+    let long: Vec<(usize, Vec<u8>)> = made.filter(|(_, sheet)| walk::is_long(reached(sheet))).take(LONG).collect();
+    assert_eq!(long.len(), LONG);
+    for (n, bytes) in long {
         let mut independent = walk::every_second();
         let sheet = Given { bytes, at_most: WHOLE };
-        compare("long sheet", n, &mut independent, &sheet.bytes, &play::started(&sheet));
+        compare("sheet", n, &mut independent, &sheet.bytes, &play::started(&sheet));
         assert!(independent.skipped() == 0 && walk::is_long(independent.clock()));
     }
 }
