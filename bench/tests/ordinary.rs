@@ -1,6 +1,6 @@
-//! The ordinary desk beside the independent one, on random sheets and on random rows of calls. In one of ten the independent desk walks
-//! every second up to a call that is not more than a million seconds ahead; in the others, and up to calls that are, the clock of a
-//! desk with no label standing and nothing live is put forward.
+//! The ordinary desk beside the independent one, on random sheets and on random rows of calls. In one of ten the independent desk
+//! walks every second up to a call that is not more than a million seconds ahead; in the others, and up to calls that are, the clock
+//! of a desk with no label standing and nothing live is put forward.
 use independent::{calendar, calls, desk, paper, random, sheet, sheets};
 
 struct Ordinary(bench::desk::Desk);

@@ -49,7 +49,7 @@ pub fn compare(name: &str, n: usize, independent: &mut Desk, sheet: &[u8], print
 }
 
 /// Plays each sheet and compares, and tells what the independent desks walked.
-pub fn same<F: Fn(usize) -> Vec<u8> + Sync>(start: &Start, count: usize, name: &str, sheet_of: F) -> (u64, u64) {
+pub fn same<F: Fn(usize) -> Vec<u8> + Sync>(start: &Start, count: usize, name: &str, sheet_of: F) -> Walked {
     let together = match start {
         Start::Own(_) => 1,
         Start::Shared => BATCH,
@@ -68,5 +68,5 @@ pub fn same<F: Fn(usize) -> Vec<u8> + Sync>(start: &Start, count: usize, name: &
         }
         assert_eq!(printed.len(), sheets.len(), "{name}");
     });
-    walked.told()
+    walked
 }

@@ -1,9 +1,10 @@
 //! How far the independent desk walks second by second where the compiled one is compared with it.
 use independent::desk::{Desk, Pace};
+use independent::sheets::SHEETS;
 use std::sync::atomic::{AtomicU64, Ordering};
 
-/// Every second is a moment, but where a call is more than a million seconds ahead: there the clock of a desk with no label standing
-/// and nothing live is put forward.
+/// Every second is a moment, but where a call is more than a million seconds ahead: there the clock of a desk with no label
+/// standing and nothing live is put forward.
 pub fn desk() -> Desk {
     Desk::with(Pace::Near, None)
 }
@@ -19,20 +20,28 @@ pub fn is_long(clock: u32) -> bool {
 }
 
 /// What many desks walked.
-#[derive(Default)]
+#[derive(Debug, Default)]
 pub struct Walked {
-    seconds: AtomicU64,
-    whole: AtomicU64,
+    pub seconds: AtomicU64,
+    /// The desks that left no second out.
+    pub from_start: AtomicU64,
+    /// Those that walked on after a jump.
+    pub after_jump: AtomicU64,
 }
 
 impl Walked {
     pub fn add(&self, desk: &Desk) {
-        self.seconds.fetch_add(desk.clock() as u64 - desk.skipped(), Ordering::Relaxed);
-        self.whole.fetch_add((desk.skipped() == 0) as u64, Ordering::Relaxed);
+        let seconds = desk.clock() as u64 - desk.skipped();
+        self.seconds.fetch_add(seconds, Ordering::Relaxed);
+        if seconds > 0 {
+            let desks = if desk.skipped() == 0 { &self.from_start } else { &self.after_jump };
+            desks.fetch_add(1, Ordering::Relaxed);
+        }
     }
 
-    /// How many seconds were walked, and how many desks left none out.
-    pub fn told(&self) -> (u64, u64) {
-        (self.seconds.load(Ordering::Relaxed), self.whole.load(Ordering::Relaxed))
+    /// Whether the random sheets, or rows of calls, were walked that widely.
+    pub fn is_wide(&self) -> bool {
+        let above = |number: &AtomicU64, least| number.load(Ordering::Relaxed) > least;
+        above(&self.seconds, 150_000_000) && above(&self.from_start, SHEETS / 10) && above(&self.after_jump, SHEETS / 2)
     }
 }

@@ -1,5 +1,5 @@
-//! Annex E beside the desk: what the program `annex_e` printed agrees with the annex's tables but for the differences that are listed,
-//! is what the independent desk says of the same tables, and is what the page tells.
+//! Annex E beside the desk: what the program `annex_e` printed agrees with the annex's tables but for the differences that are
+//! listed, is what the independent desk says of the same tables, and is what the page tells.
 use against_the_world::annex::{self, page, play};
 use against_the_world::walk;
 

@@ -1,6 +1,6 @@
 //! The compiled desk answers rows of calls as the independent desk does: waits and what they walk, timers added and cancelled on the
 //! way, and every slot after every call. The independent desk walks every second, but where a call is more than a million seconds
-//! ahead (`tests/src/walk.rs`): most rows begin with such a jump, and a few wait for a year.
+//! ahead and the desk is quiet (`tests/src/walk.rs`): most rows begin with such a jump, and a few wait for a year.
 use against_the_world::rows::{self, Answered};
 use against_the_world::threads;
 use against_the_world::walk::{self, Walked};
@@ -38,8 +38,7 @@ fn calls_answer_the_same() {
             walked.add(&independent);
         }
     });
-    let (seconds, whole) = walked.told();
-    assert!(seconds > 150_000_000 && whole > 900, "{seconds} seconds walked, {whole} rows from the clock's start");
+    assert!(walked.is_wide(), "{walked:?}");
 }
 
 /// Rows that reach the second year and later, walked from the clock's start without a jump.
@@ -50,12 +49,12 @@ fn tens_of_millions_of_seconds_answer_the_same() {
         calls::play(&mut desk, calls);
         desk.clock()
     };
-    let made: Vec<Vec<Call>> =
-        (0..sheets::SHEETS).map(calls::calls).filter(|calls| walk::is_long(reached(calls))).take(LONG).collect();
-    let sent: Vec<_> = made.iter().map(|calls| rows::begun(calls).collect()).collect();
-    for ((n, calls), mut desk) in made.iter().enumerate().zip(rows::answered(&sent)) {
+    let made = (0..sheets::SHEETS).map(|n| (n, calls::calls(n))).filter(|(_, calls)| walk::is_long(reached(calls)));
+    let made: Vec<(u64, Vec<Call>)> = made.take(LONG).collect();
+    let sent: Vec<_> = made.iter().map(|(_, calls)| rows::begun(calls).collect()).collect();
+    for ((n, calls), mut desk) in made.iter().zip(rows::answered(&sent)) {
         let mut independent = walk::every_second();
-        compare(n, calls, &calls::play(&mut desk, calls), &calls::play(&mut independent, calls));
+        compare(*n as usize, calls, &calls::play(&mut desk, calls), &calls::play(&mut independent, calls));
         assert!(independent.skipped() == 0 && walk::is_long(independent.clock()));
     }
     assert_eq!(made.len(), LONG);

@@ -65,7 +65,7 @@ pub fn play<M: Machine>(desk: &mut M, calls: &[Call]) -> String {
 
 /// Calls in a row, the same for the same seed.
 pub fn calls(seed: u64) -> Vec<Call> {
-    in_scene(seed, &mut Scene::new(&mut Random::new(seed ^ 0xCA11)))
+    in_scene(seed, &mut Scene::of(seed, &mut Random::new(seed ^ 0xCA11)))
 }
 
 /// Near the clock's start, so that every second can be walked.

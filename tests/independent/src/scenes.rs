@@ -73,6 +73,15 @@ impl Scene {
         Scene::on(r, date)
     }
 
+    /// That of a seed: one of sixteen is at the clock's start, from where every second can be walked.
+    pub fn of(seed: u64, r: &mut Random) -> Scene {
+        if seed % 16 == 5 {
+            Scene::early(r)
+        } else {
+            Scene::new(r)
+        }
+    }
+
     /// At the clock's start.
     pub fn early(r: &mut Random) -> Scene {
         let day = 1 + r.below(2) as u32;

@@ -31,7 +31,7 @@ fn sections(r: &mut Random, scene: &mut Scene, length: u64) -> (Vec<Timer>, Vec<
 pub fn sheet(seed: u64) -> Vec<u8> {
     let mut random = Random::new(seed ^ 0x5EE7);
     let r = &mut random;
-    let mut scene = Scene::new(r);
+    let mut scene = Scene::of(seed, r);
     let length = scene.length(r);
     let (timers, packets) = sections(r, &mut scene, length);
     let mut sheet = bytes(&timers, &packets);

@@ -179,8 +179,8 @@ fn stored(text: &str) -> Vec<Stored> {
     text.lines().map(line_of).collect()
 }
 
-/// How active a recorder is: 2 where it records, 1 where it is prepared. The desk has no standby, and a programme that is over waits
-/// until its window closes, so that SCAN and STBY are one.
+/// How active a recorder is: 2 where it records, 1 where it is prepared. The desk has no standby, and a programme that is over
+/// waits until its window closes, so that SCAN and STBY are one.
 fn activity(state: &str) -> u8 {
     match state.split(' ').next().unwrap() {
         "REC" | "recording" | "running" => 2,
