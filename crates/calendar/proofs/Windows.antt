@@ -47,7 +47,7 @@ opens-lt-closes : (pil year : ℕ) → opensAt pil year < closesAt pil year
 unfolding opensAt closesAt closing
 opens-lt-closes pil year = omega (arith, opening-le (dateOf pil year) (hourOf pil))
 
-realIn-parts : (pil year : ℕ) → realIn pil year ≡ true → (dayExists year (monthOf pil) (dayOf pil) ≡ true) × (hourOf pil ≤ 23) × (minuteOf pil ≤ 59)
+pub realIn-parts : (pil year : ℕ) → realIn pil year ≡ true → (dayExists year (monthOf pil) (dayOf pil) ≡ true) × (hourOf pil ≤ 23) × (minuteOf pil ≤ 59)
 unfolding realIn
 realIn-parts pil year e =
     let p = both-true _ (leb (minuteOf pil) 59) e in
