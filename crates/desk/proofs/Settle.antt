@@ -153,8 +153,3 @@ walk-keeps P h (suc n) d p = walk-keeps P h n (nextSecond d) (h d p)
 
 pub walk-settled : (n : ℕ) (d : Desk) → Settled d → Settled (walk n d)
 walk-settled = walk-keeps Settled (λ d h. nextSecond-settled d)
-
--- whatever the desk was, the first second settles it
-pub walk-suc-settled : (n : ℕ) (d : Desk) → Settled (walk (suc n) d)
-unfolding walk
-walk-suc-settled n d = walk-settled n (nextSecond d) (nextSecond-settled d)

@@ -9,7 +9,7 @@ use lib.ListN.{length, getD}
 use Rattle.answer.specs.Answer.{Answer, refused, given}
 use Rattle.calendar.specs.Calendar.{clockEnd, windowIn}
 use Rattle.calendar.specs.declared.Window.{Window}
-use Rattle.rule.specs.Rule.{noLabel, stands, openAt, matches, recordingAt, nextCopy, held, isLive, liveTimer}
+use Rattle.rule.specs.Rule.{noLabel, openAt, matches, recordingAt, nextCopy, held, isLive, liveTimer}
 use Rattle.rule.specs.declared.Stamped.{Stamped}
 use Rattle.rule.specs.declared.Booking.{Booking}
 use Rattle.rule.specs.declared.Copy.{Copy}

@@ -3,6 +3,7 @@ use borrow.Author.Needs.{needs}
 use mathlib.Core.Path.{_≡_, refl}
 use lib.ListN.{take, drop, getD}
 use Rattle.desk.specs.Calls.{packetOf}
+use Rattle.desk.specs.Moments.{liveCount}
 use Rattle.sheet.specs.Sheet.{packetIn, packetTold, packetLeft}
 use Rattle.sheet.proofs.Numbers.{packet-bytes}
 use Rattle.sheet.proofs.items.packet.Statement.{statement}
@@ -67,12 +68,13 @@ returns c =
     let live = line .before .before in
     let number = live .before in
     let heard = number .before .before in
+    let after-it : live .live .result ≡ liveCount (heard .packet .result .desk) = live .live .ensures in
     rw (
       ← asked heard,
       ← heard .packet .ensures .0 .1,
       ← heard .packet .ensures .0 .0,
       ← number .number .ensures,
-      ← live .live .ensures,
+      ← after-it,
       line .packet-line .ensures .0,
     )
     (refl, line .packet-line .ensures .1)
