@@ -4,6 +4,7 @@ ghost use Prim.Native.Nat.{_+_, _*_, _<_, _≤_};
 ghost use mathlib.Core.Bool.{true};
 ghost use mathlib.Core.Path.{_≡_};
 ghost use lib.ListN.{length};
+ghost use Rattle.sheet.specs.Laws.{longestSheet};
 ghost use Rattle.sheet.specs.Pieces.{longest};
 use libc::EINTR;
 use libc::STDIN_FILENO;
@@ -15,9 +16,8 @@ use sheet::Sheet;
 // What a piece of 4,096 bytes may print.
 const SHARE: usize = 32768;
 
-// So many bytes decide what is printed: those of the longest sheet, which are a count, 255 timers, a count and 65,535 packets, and
-// one that is left over.
-const DECIDING: usize = 1 + 255 * 6 + 2 + 65535 * 47 + 1;
+// The bytes of the longest sheet: a count, 255 timers, a count and 65,535 packets.
+const LONGEST: usize = 1 + 255 * 6 + 2 + 65535 * 47;
 
 // A read that is interrupted is tried again. Nothing says that this ends, so at the thousandth time it is one that failed.
 const TRIES: u32 = 1000;
@@ -113,8 +113,16 @@ fn flush(out: &[u8], at: usize) -> Kept
     Kept { written: true, at }
 }
 
+// So many bytes decide what is printed: after them one is left over (law `longest-sheet`), and then the rest decides nothing (law
+// `settled`).
+fn deciding() -> usize
+    ensures { λ r. ⌜ r ≡ longestSheet + 1 ⌝ }
+{
+    LONGEST + 1
+}
+
 // How many bytes may still decide something: none where a read gave none, or once a byte is left over.
-fn deciding(left: usize, got: usize, settled: bool) -> usize
+fn still_deciding(left: usize, got: usize, settled: bool) -> usize
     requires { ⌜ 0 < left ⌝ }
     ensures { λ r. ⌜ r < left ⌝ }
 {
@@ -135,7 +143,7 @@ fn main() {
     let mut out = io::large_buffer();
     let mut sheet = Sheet::new();
     let mut at: usize = 0;
-    let mut left = DECIDING;
+    let mut left = deciding();
     let mut ended = false;
     while left > 0 {
         let t = play_piece(sheet, &mut out, at);
@@ -147,7 +155,7 @@ fn main() {
         }
         at = kept.at;
         ended = t.ended;
-        left = deciding(left, t.got, sheet.left_over());
+        left = still_deciding(left, t.got, sheet.left_over());
     }
     let last = closed(sheet, ended, &mut out, at);
     write(&out, last.at);

@@ -43,7 +43,7 @@ onItem st d short = closing st d
 onItem st d (item i xs) = told st i d ++ playFrom (stageAfter st i) (deskAfter st i d) xs
 
 -- of timers and packets, one at least is left
-abbrev Real : Stage → Type 0
+abbrev pub Real : Stage → Type 0
 Real TimerCount = Unit {0}
 Real (Timers n) = 1 ≤ n
 Real PacketCount = Unit {0}
@@ -52,7 +52,7 @@ Real Played = Unit {0}
 Real LeftOver = Unit {0}
 
 -- the stage of what is left is that of none left, or one with some left
-left-is : (P : ℕ → Stage → Type 0) (none : Stage) (some : ℕ → Stage) → P 0 none → ((n : ℕ) → P (suc n) (some (suc n))) →
+pub left-is : (P : ℕ → Stage → Type 0) (none : Stage) (some : ℕ → Stage) → P 0 none → ((n : ℕ) → P (suc n) (some (suc n))) →
     (n : ℕ) → P n (cond (eqb n 0) none (some n))
 left-is P none some z s zero = z
 left-is P none some z s (suc n) = rw (eqb·suc-zero n) (s n)
@@ -97,10 +97,10 @@ by-item LeftOver r d xs = same-next (λ x. brokenLine d) (onItem LeftOver d) ref
 
 -- ── a sheet that is being played ───────────────────────────────────────────────────────────────────────────────────
 -- the bytes held are fewer than the next item has
-record Playing (s : Sheet) : Type 0 where
-  real : Real (s .stage)
-  part : s .have < need (s .stage)
-  sized : length (s .held) ≡ 47
+pub record Playing (s : Sheet) : Type 0 where
+  pub real : Real (s .stage)
+  pub part : s .have < need (s .stage)
+  pub sized : length (s .held) ≡ 47
 
 abbrev heldBy : Sheet → List ℕ
 heldBy s = take (s .have) (s .held)
@@ -163,7 +163,7 @@ module _ (b : ℕ) (s : Sheet) (p : Playing s) where
       go true e = rest-item more (p .real) (omega (arith, p .part, leb-true (need (s .stage)) (s .have + 1) e)) more-sized xs
       go false e = refl
 
-  byte-playing : Playing (afterByte b s)
+  pub byte-playing : Playing (afterByte b s)
   unfolding afterByte afterItem
   byte-playing = go (isWhole more) refl
     where
@@ -192,9 +192,12 @@ printed-rest [] s h = sym (rest-end s h)
 printed-rest (p ∷ ps) s h =
     ap (λ r. pieceTold p s ++ r) (printed-rest ps (afterPiece p s) (piece-playing p s h)) ∙ sym (piece-rest p s h (joined ps))
 
+pub begun : Playing blank
+begun = record { real = tt; part = omega arith; sized = refl }
+
 pub pieces : (ps : List (List ℕ)) → printed ps blank ≡ sheetOf (joined ps)
 unfolding sheetOf
-pieces ps = printed-rest ps blank (record { real = tt; part = omega arith; sized = refl })
+pieces ps = printed-rest ps blank begun
 
 -- ── a byte left over ───────────────────────────────────────────────────────────────────────────────────────────────
 is-left-over : (st : Stage) → leftOver st ≡ true → st ≡ LeftOver
@@ -206,12 +209,12 @@ is-left-over Played e = no-way (sym e)
 is-left-over LeftOver e = refl
 
 -- one byte more, and a piece more, print nothing and leave the desk
-record Settled (s : Sheet) (told : List ℕ) (t : Sheet) : Type 0 where
+pub record Settled (s : Sheet) (told : List ℕ) (t : Sheet) : Type 0 where
   silent : told ≡ []
-  stays : t .stage ≡ LeftOver
+  pub stays : t .stage ≡ LeftOver
   same : t .desk ≡ s .desk
 
-byte-settled : (b : ℕ) (s : Sheet) → s .stage ≡ LeftOver → Settled s (byteTold b s) (afterByte b s)
+pub byte-settled : (b : ℕ) (s : Sheet) → s .stage ≡ LeftOver → Settled s (byteTold b s) (afterByte b s)
 unfolding afterByte byteTold afterItem toldBy
 byte-settled b s e = rw (e, le-leb 1 (s .have + 1) (omega arith)) (record { silent = refl; stays = refl; same = refl })
 

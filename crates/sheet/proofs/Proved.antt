@@ -5,12 +5,14 @@ use Rattle.answer.proofs.Answers.{equation, paired}
 use Rattle.sheet.specs.Laws.{Laws}
 use Rattle.sheet.specs.Pieces.{blank, leftOver, fedBy, outAfter, closedBy, outClosed}
 use Rattle.sheet.proofs.Machine.{pieces, settled}
+use Rattle.sheet.proofs.Longest.{longest-sheet}
 use Rattle.sheet.proofs.Small.{slot-inside, small-refusal, small-answer, live-inside, timers-kept}
 
 pub laws : Laws
 laws = record {
   pieces = pieces;
   settled = settled;
+  longest-sheet = longest-sheet;
   small-slot = λ b d t l e. omega (arith, slot-inside b d t e);
   small-refusal = small-refusal;
   small-answer = small-answer;

@@ -1,9 +1,9 @@
 -- What is claimed of a sheet. Proved in proofs/Proved.antt.
-use Prim.Native.Nat.{ℕ, _+_, _≤_, _<_}
+use Prim.Native.Nat.{ℕ, _+_, _*_, _≤_, _<_}
 use mathlib.Core.Bool.{Bool, true}
 use mathlib.Core.Path.{_≡_}
 use mathlib.Core.List.{List, [], _∷_, _++_}
-use lib.ListN.{length}
+use lib.ListN.{length, getD}
 use Rattle.answer.specs.Answer.{Unique, number, given}
 use Rattle.rule.specs.declared.Booking.{Booking}
 use Rattle.desk.specs.declared.Desk.{Desk}
@@ -25,11 +25,17 @@ abbrev pub printed : List (List ℕ) → Sheet → List ℕ
 printed [] s = endTold true s
 printed (p ∷ ps) s = pieceTold p s ++ printed ps (afterPiece p s)
 
+-- a one-byte count and its timers, a two-byte count and its packets
+abbrev pub longestSheet : ℕ
+longestSheet = 1 + 255 * 6 + 2 + 65535 * 47
+
 pub record Laws : Type 0 where
   -- however the input arrives in pieces, what is printed is the one definition's
   pub pieces : (ps : List (List ℕ)) → printed ps blank ≡ sheetOf (joined ps)
   -- once a byte is left over, whatever follows prints `X live` alone, with the count of now: nothing more need be read
   pub settled : (s : Sheet) (ps : List (List ℕ)) → leftOver (s .stage) ≡ true → printed ps s ≡ brokenLine (s .desk)
+  -- and so it is after more bytes than the longest sheet has
+  pub longest-sheet : (p : List ℕ) → ((i : ℕ) → getD p i 0 < 256) → longestSheet < length p → leftOver (afterPiece p blank .stage) ≡ true
   -- no number that a sheet prints is above 16: slots, refusals, answers, and the live timers of sixteen
   pub small-slot : (b : Booking) (d : Desk) (t : Told) → length (d .timers) ≡ 16 → addOf b d ≡ given t → t .says < 16
   pub small-refusal : (b : Booking) (d : Desk) → number (addOf b d) ≤ 16

@@ -1,5 +1,5 @@
--- `main`'s loop: at each turn the buffer has room for what a whole piece prints. The measure is
--- how many bytes may still decide something.
+-- `main`'s loop: at each turn the buffer has room for what a whole piece prints. The measure is how many
+-- bytes may still decide something.
 use borrow.Author.Needs.{needs}
 use Prim.Native.Nat.{_*_, _≤_}
 use mathlib.Core.Path.{_≡_}
@@ -19,6 +19,9 @@ large-buffer-requires c κs = search needs
 
 new-requires : tie.Need-new-requires Inv-loop μ-loop
 new-requires c κs = search needs
+
+deciding-requires : tie.Need-deciding-requires Inv-loop μ-loop
+deciding-requires c κs = search needs
 
 loop-holds : tie.Need-loop-holds Inv-loop μ-loop
 loop-holds c = search needs
@@ -41,8 +44,8 @@ returns c = search needs
 left-over-requires : tie.Need-left-over-requires Inv-loop μ-loop
 left-over-requires c κs = search needs
 
-deciding-requires : tie.Need-deciding-requires Inv-loop μ-loop
-deciding-requires c κs = search needs
+still-deciding-requires : tie.Need-still-deciding-requires Inv-loop μ-loop
+still-deciding-requires c κs = search needs
 
 loop-less : tie.Need-loop-less Inv-loop μ-loop
 loop-less c = search needs
@@ -73,6 +76,7 @@ main-spec =
     μ-loop
     large-buffer-requires
     new-requires
+    deciding-requires
     loop-holds
     slice-aggregate-play-piece
     play-piece-requires
@@ -80,7 +84,7 @@ main-spec =
     flush-requires
     returns
     left-over-requires
-    deciding-requires
+    still-deciding-requires
     loop-less
     loop-again
     slice-aggregate-closed
