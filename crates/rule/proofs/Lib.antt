@@ -1,6 +1,5 @@
 pub mod Ages
 pub mod Search
-pub mod Mapped
 pub mod Sights
 pub mod Steps
 pub mod Codes
