@@ -2,10 +2,10 @@
 use crate::events::RECORDER;
 use crate::events::Sequence;
 use crate::rows::OFF;
-use desk::AskAnswer;
 use desk::Desk;
-use desk::State;
 use libc::STDOUT_FILENO;
+use reply::AskAnswer;
+use reply::State;
 
 fn text(s: &[u8]) {
     io::write_all(STDOUT_FILENO, s);

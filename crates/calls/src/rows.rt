@@ -2,9 +2,9 @@
 ghost use Prim.Native.Nat.{_≤_};
 use answer::four;
 use answer::pair;
-use desk::AddAnswer;
 use desk::Desk;
-use desk::WaitAnswer;
+use reply::AddAnswer;
+use reply::WaitAnswer;
 
 // What a call says: the number of its refusal or 0, and what it gives.
 pub(crate) struct Said {

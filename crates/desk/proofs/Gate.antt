@@ -12,10 +12,10 @@ use Rattle.label.specs.declared.Label.{Label}
 use Rattle.label.specs.declared.Refusal.{Refusal}
 use Rattle.label.specs.declared.Refusal.the-variants.{Length, AddressDamaged, OtherPacket, DesignationDamaged, OtherDesignation, LabelDamaged}
 use Rattle.desk.specs.Calls.{tunerRows, labelRows, hearingAt, hearing}
-use Rattle.desk.specs.Numbers.{packetRefusal, packetNumber}
+use Rattle.reply.specs.Numbers.{packetRefusal, packetNumber}
 use Rattle.desk.specs.declared.Desk.{Desk}
-use Rattle.desk.specs.declared.PacketRefusal.{PacketRefusal}
-use Rattle.desk.specs.declared.PacketAnswer.{PacketAnswer}
+use Rattle.reply.specs.declared.PacketRefusal.{PacketRefusal}
+use Rattle.reply.specs.declared.PacketAnswer.{PacketAnswer}
 
 reader-number : (r : Refusal) → 0 < refusalNumber r
 reader-number Length = omega arith

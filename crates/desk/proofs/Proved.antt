@@ -4,7 +4,7 @@ use Rattle.answer.specs.Answer.{number, after}
 use Rattle.answer.proofs.Answers.{equation, paired}
 use Rattle.desk.specs.Moments.{fresh, liveCount}
 use Rattle.desk.specs.Calls.{packetOf}
-use Rattle.desk.specs.Numbers.{packetRefusal, packetNumber, waitAnswer, addAnswer, cancelNumber, stateSays, askAnswer, secondNumber}
+use Rattle.reply.specs.Numbers.{packetRefusal, packetNumber, waitAnswer, addAnswer, cancelNumber, stateSays, askAnswer, secondNumber}
 use Rattle.desk.specs.Laws.{Laws}
 use Rattle.desk.proofs.Settle.{moment-settled}
 use Rattle.desk.proofs.Only.{packet-unique, wait-unique, second-unique, add-unique, cancel-unique, ask-unique}
@@ -23,12 +23,4 @@ laws = record {
   cancel-unique = cancel-unique;
   ask-unique = ask-unique;
   live-unique = λ d. equation (liveCount d);
-  packet-refusal-number-unique = λ a. equation (packetRefusal a);
-  packet-number-unique = λ a. equation (packetNumber a);
-  wait-number-unique = λ a. equation (number (waitAnswer a));
-  add-number-unique = λ a. equation (number (addAnswer a));
-  cancel-number-unique = λ a. equation (cancelNumber a);
-  state-number-unique = λ s. equation (stateSays s .state);
-  ask-number-unique = λ a. equation (number (askAnswer a));
-  second-number-unique = λ a. equation (secondNumber a);
 }

@@ -15,6 +15,7 @@ use Rattle.rule.specs.declared.Booking.{Booking}
 use Rattle.rule.specs.declared.Timer.{Timer}
 use Rattle.rule.specs.declared.Copy.{Copy}
 use Rattle.rule.specs.declared.Copy.the-variants.{Free, Waiting, Prepared, Recording, RunningOn}
+use Rattle.reply.specs.Numbers.{Says}
 use Rattle.sixteen.specs.Sixteen.{noTimer, active, sameBooking, roomAt, isNowhere, slotOf}
 use Rattle.desk.specs.Moments.{moment, nextSecond, passTo, walkedTo}
 use Rattle.desk.specs.declared.Desk.{Desk}
@@ -104,11 +105,6 @@ unfoldable pub cancelOf : ℕ → Desk → Answer Desk
 cancelOf slot d = firstOf (slotRows slot d) (moment (withTimer slot noTimer d))
 
 -- ── asking ─────────────────────────────────────────────────────────────────────────────────────────────────────────
--- what asking gives: 0 waiting, 1 prepared, 2 recording, 3 running on, 4 ended, and the place of the third and the fourth
-pub record Says : Type 0 where
-  pub state : ℕ
-  pub place : ℕ
-
 abbrev pub copySays : Copy → Says
 copySays Free = record { state = 0; place = 0 }
 copySays Waiting = record { state = 0; place = 0 }

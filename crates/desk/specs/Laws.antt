@@ -6,20 +6,21 @@ use Rattle.answer.specs.Answer.{Unique, number, after}
 use Rattle.rule.specs.declared.Booking.{Booking}
 use Rattle.desk.specs.Moments.{fresh, moment, liveCount}
 use Rattle.desk.specs.Calls.{packetOf, waitOf, secondOf, addOf, cancelOf, askOf}
-use Rattle.desk.specs.Numbers.{packetRefusal, packetNumber, waitAnswer, addAnswer, cancelNumber, stateSays, askAnswer, secondNumber, saidBy, leftBy}
+use Rattle.reply.specs.Numbers.{packetRefusal, packetNumber, waitAnswer, addAnswer, cancelNumber, stateSays, askAnswer, secondNumber}
+use Rattle.desk.specs.Numbers.{saidBy, leftBy}
 use Rattle.desk.specs.declared.Desk.{Desk}
-use Rattle.desk.specs.declared.PacketRefusal.{PacketRefusal}
-use Rattle.desk.specs.declared.PacketAnswer.{PacketAnswer}
+use Rattle.reply.specs.declared.PacketRefusal.{PacketRefusal}
+use Rattle.reply.specs.declared.PacketAnswer.{PacketAnswer}
 use Rattle.desk.specs.declared.Heard.{Heard}
-use Rattle.desk.specs.declared.WaitAnswer.{WaitAnswer}
+use Rattle.reply.specs.declared.WaitAnswer.{WaitAnswer}
 use Rattle.desk.specs.declared.Waited.{Waited}
-use Rattle.desk.specs.declared.AddAnswer.{AddAnswer}
+use Rattle.reply.specs.declared.AddAnswer.{AddAnswer}
 use Rattle.desk.specs.declared.Added.{Added}
-use Rattle.desk.specs.declared.CancelAnswer.{CancelAnswer}
+use Rattle.reply.specs.declared.CancelAnswer.{CancelAnswer}
 use Rattle.desk.specs.declared.Cancelled.{Cancelled}
-use Rattle.desk.specs.declared.State.{State}
-use Rattle.desk.specs.declared.AskAnswer.{AskAnswer}
-use Rattle.desk.specs.declared.SecondAnswer.{SecondAnswer}
+use Rattle.reply.specs.declared.State.{State}
+use Rattle.reply.specs.declared.AskAnswer.{AskAnswer}
+use Rattle.reply.specs.declared.SecondAnswer.{SecondAnswer}
 use Rattle.desk.specs.declared.Passed.{Passed}
 
 pub record Laws : Type 0 where
@@ -36,11 +37,3 @@ pub record Laws : Type 0 where
       Unique (λ (r : Cancelled). (cancelNumber (r .answer) ≡ number (cancelOf slot d)) × (r .desk ≡ after d (cancelOf slot d)))
   pub ask-unique : (d : Desk) (slot : ℕ) → Unique (λ (r : AskAnswer). askAnswer r ≡ askOf slot d)
   pub live-unique : (d : Desk) → Unique (λ (r : ℕ). r ≡ liveCount d)
-  pub packet-refusal-number-unique : (a : PacketRefusal) → Unique (λ (n : ℕ). n ≡ packetRefusal a)
-  pub packet-number-unique : (a : PacketAnswer) → Unique (λ (n : ℕ). n ≡ packetNumber a)
-  pub wait-number-unique : (a : WaitAnswer) → Unique (λ (n : ℕ). n ≡ number (waitAnswer a))
-  pub add-number-unique : (a : AddAnswer) → Unique (λ (n : ℕ). n ≡ number (addAnswer a))
-  pub cancel-number-unique : (a : CancelAnswer) → Unique (λ (n : ℕ). n ≡ cancelNumber a)
-  pub state-number-unique : (s : State) → Unique (λ (n : ℕ). n ≡ stateSays s .state)
-  pub ask-number-unique : (a : AskAnswer) → Unique (λ (n : ℕ). n ≡ number (askAnswer a))
-  pub second-number-unique : (a : SecondAnswer) → Unique (λ (n : ℕ). n ≡ secondNumber a)

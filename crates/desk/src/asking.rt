@@ -2,10 +2,10 @@
 ghost use mathlib.Core.Path.{_≡_};
 ghost use Rattle.desk.specs.Moments.{liveCount};
 ghost use Rattle.desk.specs.Calls.{copySays, askOf};
-ghost use Rattle.desk.specs.Numbers.{stateSays, askAnswer};
-use crate::AskAnswer;
+ghost use Rattle.reply.specs.Numbers.{stateSays, askAnswer};
 use crate::Desk;
-use crate::State;
+use reply::AskAnswer;
+use reply::State;
 use rule::Copy;
 use rule::copies::is_held;
 use rule::matching::ended_at;

@@ -2,14 +2,14 @@
 ghost use mathlib.Core.Path.{_≡_};
 ghost use Rattle.answer.specs.Answer.{firstOf, number, after};
 ghost use Rattle.desk.specs.Calls.{tunerRows, labelRows, withLabel, hearingAt, hearing, packetOf};
-ghost use Rattle.desk.specs.Numbers.{packetNumber};
+ghost use Rattle.reply.specs.Numbers.{packetNumber};
 use crate::Desk;
 use crate::Heard;
-use crate::PacketAnswer;
-use crate::PacketRefusal;
 use crate::moments::CLOCK_END;
 use label::Label;
 use label::Reading;
+use reply::PacketAnswer;
+use reply::PacketRefusal;
 use rule::places::label_at;
 use rule::places::put_label;
 use rule::standing::heard_at;

@@ -17,7 +17,8 @@ use Rattle.rule.specs.declared.Copy.the-variants.{Waiting}
 use Rattle.desk.specs.declared.Desk.{Desk}
 use Rattle.sixteen.specs.Sixteen.{noTimer, active, sameBooking, isNowhere, slotOf}
 use Rattle.desk.specs.Moments.{moment, nextSecond, passTo}
-use Rattle.desk.specs.Calls.{Told, Says, tunerRows, timeRows, labelRows, withLabel, hearingAt, packetOf, waitOf, secondOf, roomIn, withTimer, addRows, addOf, slotRows, cancelOf, askOf}
+use Rattle.reply.specs.Numbers.{Says}
+use Rattle.desk.specs.Calls.{Told, tunerRows, timeRows, labelRows, withLabel, hearingAt, packetOf, waitOf, secondOf, roomIn, withTimer, addRows, addOf, slotRows, cancelOf, askOf}
 use Rattle.history.specs.Run.{Call, packet, wait, second, add, cancel, ask, live, onlyDesk, toldToo, saysOnly, outcome, left}
 
 pub data Step (d : Desk) (c : Call) : Desk → Type 0 where

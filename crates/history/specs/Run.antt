@@ -5,7 +5,8 @@ use Rattle.answer.specs.Answer.{Answer, refused, given}
 use Rattle.rule.specs.declared.Booking.{Booking}
 use Rattle.desk.specs.declared.Desk.{Desk}
 use Rattle.desk.specs.Moments.{fresh, liveCount}
-use Rattle.desk.specs.Calls.{Told, Says, packetOf, waitOf, secondOf, addOf, cancelOf, askOf}
+use Rattle.reply.specs.Numbers.{Says}
+use Rattle.desk.specs.Calls.{Told, packetOf, waitOf, secondOf, addOf, cancelOf, askOf}
 
 pub data Call : Type 0 where
   packet : ℕ → ℕ → List ℕ → Call  -- tuner, time, bytes

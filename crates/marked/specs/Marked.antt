@@ -19,7 +19,8 @@ use Rattle.rule.specs.declared.Copy.{Copy}
 use Rattle.rule.specs.declared.Copy.the-variants.{Waiting, Prepared, Recording, RunningOn}
 use Rattle.desk.specs.declared.Desk.{Desk}
 use Rattle.desk.specs.Moments.{fresh, walk, passTo, liveCount}
-use Rattle.desk.specs.Calls.{Says, placeOf, packetOf, timerAt, askOf}
+use Rattle.reply.specs.Numbers.{Says}
+use Rattle.desk.specs.Calls.{placeOf, packetOf, timerAt, askOf}
 use Rattle.sheet.specs.Sheet.{sheetOf}
 use Rattle.history.specs.Run.{Call, packet, wait, add, ask, live, answersOf, reached}
 

@@ -3,11 +3,11 @@ ghost use Prim.Native.Nat.{_+_, _<_, _≤_};
 ghost use mathlib.Core.Path.{_≡_};
 ghost use mathlib.Core.List.{_∷_, [], _++_};
 ghost use lib.ListN.{length};
-ghost use Rattle.desk.specs.Numbers.{addAnswer};
+ghost use Rattle.reply.specs.Numbers.{addAnswer};
 ghost use Rattle.sheet.specs.Sheet.{digit, decimal, space, lineFeed, timerLine, packetLine};
 ghost use Rattle.sheet.specs.Pieces.{longest};
 ghost use Rattle.sheet.specs.Stores.{Stored};
-use desk::AddAnswer;
+use reply::AddAnswer;
 
 fn put(out: &mut [u8], at: usize, b: u8) -> usize
     requires { ⌜ at < length (now out) ⌝ }

@@ -6,8 +6,8 @@ use denote.Enum.Declared.{tagOf}
 use types.Run.{OneOf, miss}
 use borrow.Author.Needs.{needs}
 use Rattle.answer.specs.Answer.{refused, number}
-use Rattle.desk.specs.Numbers.{addAnswer}
-use Rattle.desk.specs.declared.AddAnswer.{AddAnswer}
+use Rattle.reply.specs.Numbers.{addAnswer}
+use Rattle.reply.specs.declared.AddAnswer.{AddAnswer}
 use Rattle.desk.proofs.AddAnswer.{the-type}
 use Rattle.sheet.specs.Sheet.{space, decimal, lineFeed}
 use Rattle.sheet.specs.Stores.{Stored}
