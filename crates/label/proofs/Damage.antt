@@ -4,8 +4,8 @@ use mathlib.Core.Path.{_≡_, refl, sym, ap, ap₂, fun-ext, _∙_}
 use mathlib.Core.Bool.{true, false, _||_, or-true}
 use mathlib.Core.List.{List, [], _∷_, _++_}
 use native.Mathlib.Omega.{arith}
-use borrow.Author.Tests.{ne-eqb, ltb-true, le-ltb}
-use lib.Dec.{ltb}
+use borrow.Author.Tests.{eqb-true, ltb-true}
+use lib.Dec.{eqb, ltb}
 use lib.ListN.{length, getD, take, drop}
 use Rattle.answer.specs.Answer.{refused, Row, firstOf}
 use Rattle.hamming.specs.Byte.{nibbleOf}
@@ -60,7 +60,7 @@ refused-by p k n e b =
     (sooner others n, sooner-le others n, ap (λ (rows : List Row). firstOf rows a) e ∙ one-more a a n rows (drop (suc k) (readerRows p)) [] b refl)
 
 label-number : (j : ℕ) → member j labelBytes ≡ true → damageNumber j ≡ 6
-label-number j m = let h = ltb-true 2 j (each-listed (ltb 2) labelBytes refl j m) in rw (le-ltb j 2 (omega arith), ne-eqb j 2 (omega arith))
+label-number j m = eqb-true (damageNumber j) 6 (each-listed (λ i. eqb (damageNumber i) 6) labelBytes refl j m)
 
 module _ (p : List ℕ) where
   abbrev Refused : ℕ → Type 0
