@@ -29,10 +29,10 @@ fn timer(desk: Desk, held: [u8; 47], out: &mut [u8], at: usize) -> Left
     let pil = triple(held[2], held[3], held[4]);
     let added = desk.add(cni, pil, held[5]);
     let answer = added.answer;
-    let left = added.desk;
+    let moved = added.desk;
     let next = timer_line(out, at, answer);
     Left {
-        desk: left,
+        desk: moved,
         at: next,
     }
 }
