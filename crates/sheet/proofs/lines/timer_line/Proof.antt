@@ -8,7 +8,7 @@ use borrow.Author.Needs.{needs}
 use Rattle.answer.specs.Answer.{refused, number}
 use Rattle.reply.specs.Numbers.{addAnswer}
 use Rattle.reply.specs.declared.AddAnswer.{AddAnswer}
-use Rattle.desk.proofs.AddAnswer.{the-type}
+use Rattle.reply.proofs.AddAnswer.{the-type}
 use Rattle.sheet.specs.Sheet.{space, decimal, lineFeed}
 use Rattle.sheet.specs.Stores.{Stored}
 use Rattle.sheet.proofs.Texts.{then}
