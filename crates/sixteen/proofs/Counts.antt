@@ -1,18 +1,13 @@
 -- A loop that counts the elements of a list that pass a test: what is left to count from i on.
 use Prim.Native.Nat.{ℕ, _+_, _≤_, _<_}
-use mathlib.Core.Path.{_≡_, refl, sym}
+use mathlib.Core.Path.{_≡_, refl}
 use mathlib.Core.Bool.{Bool, true, false, cond}
-use mathlib.Core.List.{List, [], _∷_}
+use mathlib.Core.List.{List}
 use native.Mathlib.Omega.{arith}
-use native.Mathlib.Nat.{zero-add}
 use native.Mathlib.Numerals.{add-one}
-use borrow.Author.Tests.{lt-ltb}
-use lib.Dec.{ltb}
 use mir.Val.{boolByte}
 use lib.ListN.{length, getD, drop, drop-of-length-le}
 use lib.Seq.{drop-cons}
-use Rattle.answer.proofs.Cases.{by-test}
-use Rattle.answer.specs.Lists.{some}
 use Rattle.sixteen.specs.Sixteen.{count}
 
 bit : (b : Bool) → boolByte b ≡ cond b 1 0
@@ -29,8 +24,3 @@ module _ {A : Type 0} (f : A → Bool) (xs : List A) (i : ℕ) where
 
   pub count-none : length xs ≤ i → count f (drop i xs) ≡ 0
   count-none h = rw (drop-of-length-le xs h)
-
--- some element passes where the count is not 0
-pub some-count : {A : Type 0} (f : A → Bool) (xs : List A) → some f xs ≡ ltb 0 (count f xs)
-some-count f [] = refl
-some-count f (x ∷ xs) = by-test (f x) (λ e. rw e (sym (lt-ltb 0 (1 + count f xs) (omega arith)))) (λ e. rw (e, zero-add) (some-count f xs))

@@ -154,6 +154,15 @@ pub fn count_live(timers: [Timer; 16]) -> u32
 pub fn any_live(timers: [Timer; 16]) -> bool
     ensures { λ r. ⌜ r ≡ some liveTimer timers ⌝ }
 {
-    let n = count_live(timers);
-    0 < n
+    let mut i: usize = 0;
+    while i < 16 {
+        let t = timers[i];
+        let c = t.copy;
+        let live = is_live(c);
+        if live {
+            return true;
+        }
+        i += 1;
+    }
+    false
 }

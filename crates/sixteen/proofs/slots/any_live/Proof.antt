@@ -1,16 +1,39 @@
--- One is live where the count is not 0.
-use mathlib.Core.Path.{sym}
-use borrow.Author.Needs.{needs}
+-- The loop's invariant: no timer before slot i is live.
+use Prim.Native.Nat.{_-_}
+use mathlib.Core.Path.{refl}
 use Rattle.rule.specs.Rule.{liveTimer}
-use Rattle.sixteen.proofs.Counts.{some-count}
+use Rattle.rule.proofs.Search.{NotBefore, some-hit, miss, some-missed}
+use borrow.Author.Needs.{needs}
 use Rattle.sixteen.proofs.slots.any_live.Statement.{statement}
 use Rattle.sixteen.proofs.slots.any_live.Tie as tie
 
-count-live-requires : tie.Need-count-live-requires
-count-live-requires c κs = search needs
+abbrev Inv-loop : tie.InvT-loop
+Inv-loop timers i₀ i = NotBefore liveTimer timers i
 
-returns : tie.Need-returns
-returns c = rw (c .count-live .ensures) (sym (some-count liveTimer (c .before .args .timers)))
+abbrev μ-loop : tie.MeasureT-loop
+μ-loop timers i₀ i = 16 - i
+
+returns : tie.Need-returns Inv-loop μ-loop
+returns c = some-hit _ _ _ (c .before .before .before .before .loop .inv) (search needs) (c .before .is-live .ensures) (c .if1 .taken)
+
+loop-again : tie.Need-loop-again Inv-loop μ-loop
+loop-again c = miss _ _ _ (c .before .before .before .before .loop .inv) (search needs) (c .before .is-live .ensures) (c .if1 .left)
+
+returns-2 : tie.Need-returns-2 Inv-loop μ-loop
+returns-2 c = some-missed _ _ (c .before .loop .inv) (search needs)
 
 pub any-live-spec : {M : Type 1} → statement M
-any-live-spec = tie.close (tie.spec count-live-requires returns)
+any-live-spec =
+    tie.close
+    (tie.spec
+    Inv-loop
+    μ-loop
+    (λ c. (search needs, search needs, refl))
+    (λ c. search needs)
+    (λ c. search needs)
+    (λ c κs. search needs)
+    returns
+    (λ c. search needs)
+    (λ c. search needs)
+    loop-again
+    returns-2)
