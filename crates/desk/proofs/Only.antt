@@ -1,31 +1,20 @@
 -- Each call's promise allows one outcome.
 use Prim.Native.Nat.{ℕ}
 use mathlib.Core.Path.{_≡_, refl, sym, _∙_}
-use mathlib.Core.Bool.{cond}
 use mathlib.Core.List.{List}
-use lib.Dec.{eqb}
-use Rattle.answer.specs.Answer.{Answer, refused, given, Unique, number, after}
+use Rattle.answer.specs.Answer.{Unique, number, after}
 use Rattle.answer.proofs.Answers.{numbered}
-use Rattle.label.specs.declared.Refusal.the-variants.{Length, AddressDamaged, OtherPacket, DesignationDamaged, OtherDesignation, LabelDamaged}
 use Rattle.rule.specs.declared.Booking.{Booking}
-use Rattle.reply.specs.Numbers.{Says}
 use Rattle.desk.specs.Calls.{packetOf, waitOf, secondOf, addOf, cancelOf, askOf}
 use Rattle.reply.specs.Numbers.{packetNumber, waitAnswer, addAnswer, cancelNumber, askAnswer, secondNumber}
 use Rattle.desk.specs.Numbers.{saidBy, leftBy}
 use Rattle.reply.proofs.Back.{packetBack, packet-back, waitBack, wait-back, addBack, add-back, cancelBack, cancel-back, askBack, ask-back, secondBack, second-back}
 use Rattle.desk.specs.declared.Desk.{Desk}
-use Rattle.reply.specs.declared.PacketRefusal.{PacketRefusal}
-use Rattle.reply.specs.declared.PacketAnswer.{PacketAnswer}
 use Rattle.desk.specs.declared.Heard.{Heard}
-use Rattle.reply.specs.declared.WaitAnswer.{WaitAnswer}
 use Rattle.desk.specs.declared.Waited.{Waited}
-use Rattle.reply.specs.declared.AddAnswer.{AddAnswer}
 use Rattle.desk.specs.declared.Added.{Added}
-use Rattle.reply.specs.declared.CancelAnswer.{CancelAnswer}
 use Rattle.desk.specs.declared.Cancelled.{Cancelled}
-use Rattle.reply.specs.declared.State.{State}
 use Rattle.reply.specs.declared.AskAnswer.{AskAnswer}
-use Rattle.reply.specs.declared.SecondAnswer.{SecondAnswer}
 use Rattle.desk.specs.declared.Passed.{Passed}
 
 -- an answer by its number and values, and the desk: R is made of the two

@@ -4,7 +4,7 @@ use Rattle.answer.specs.Answer.{number, after}
 use Rattle.answer.proofs.Answers.{equation, paired}
 use Rattle.desk.specs.Moments.{fresh, liveCount}
 use Rattle.desk.specs.Calls.{packetOf}
-use Rattle.reply.specs.Numbers.{packetRefusal, packetNumber, waitAnswer, addAnswer, cancelNumber, stateSays, askAnswer, secondNumber}
+use Rattle.reply.specs.Numbers.{packetNumber}
 use Rattle.desk.specs.Laws.{Laws}
 use Rattle.desk.proofs.Settle.{moment-settled}
 use Rattle.desk.proofs.Only.{packet-unique, wait-unique, second-unique, add-unique, cancel-unique, ask-unique}

@@ -6,21 +6,14 @@ use Rattle.answer.specs.Answer.{Unique, number, after}
 use Rattle.rule.specs.declared.Booking.{Booking}
 use Rattle.desk.specs.Moments.{fresh, moment, liveCount}
 use Rattle.desk.specs.Calls.{packetOf, waitOf, secondOf, addOf, cancelOf, askOf}
-use Rattle.reply.specs.Numbers.{packetRefusal, packetNumber, waitAnswer, addAnswer, cancelNumber, stateSays, askAnswer, secondNumber}
+use Rattle.reply.specs.Numbers.{packetNumber, waitAnswer, addAnswer, cancelNumber, askAnswer, secondNumber}
 use Rattle.desk.specs.Numbers.{saidBy, leftBy}
 use Rattle.desk.specs.declared.Desk.{Desk}
-use Rattle.reply.specs.declared.PacketRefusal.{PacketRefusal}
-use Rattle.reply.specs.declared.PacketAnswer.{PacketAnswer}
 use Rattle.desk.specs.declared.Heard.{Heard}
-use Rattle.reply.specs.declared.WaitAnswer.{WaitAnswer}
 use Rattle.desk.specs.declared.Waited.{Waited}
-use Rattle.reply.specs.declared.AddAnswer.{AddAnswer}
 use Rattle.desk.specs.declared.Added.{Added}
-use Rattle.reply.specs.declared.CancelAnswer.{CancelAnswer}
 use Rattle.desk.specs.declared.Cancelled.{Cancelled}
-use Rattle.reply.specs.declared.State.{State}
 use Rattle.reply.specs.declared.AskAnswer.{AskAnswer}
-use Rattle.reply.specs.declared.SecondAnswer.{SecondAnswer}
 use Rattle.desk.specs.declared.Passed.{Passed}
 
 pub record Laws : Type 0 where

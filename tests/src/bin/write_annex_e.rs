@@ -1,4 +1,4 @@
-//! Makes the rows and counts of `docs/ANNEX_E.md` anew: `tools/cargo --own run --manifest-path tests/Cargo.toml`.
+//! Makes the rows and counts of `docs/ANNEX_E.md` anew: `tools/cargo --own run --manifest-path tests/Cargo.toml --bin write_annex_e`.
 use against_the_world::annex::{self, page};
 use against_the_world::command::file;
 
