@@ -19,7 +19,7 @@ const TUNER: u8 = 0;
 
 fn packet_of(l: Label) -> [u8; 42] {
     let mut bytes = [0u8; 42];
-    label::writer::write(l, &mut bytes);
+    writer::write(l, &mut bytes);
     bytes
 }
 

@@ -105,7 +105,7 @@ impl Desk {
         match barred {
             PacketAnswer::Refused(r) => self.refuse(r),
             PacketAnswer::Done => {
-                let reading = label::reader::read(bytes);
+                let reading = reader::read(bytes);
                 match reading {
                     Reading::Refused(r) => self.refuse(PacketRefusal::Unread(r)),
                     Reading::Read(l) => self.hear(tuner, time, l),

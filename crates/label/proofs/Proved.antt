@@ -1,22 +1,17 @@
--- The laws of reader, writer and PIL.
+-- The laws of packet and PIL.
 use Prim.Native.Nat.{ℕ, _+_, _*_, _/_, _%_, _<_}
-use mathlib.Core.Path.{_≡_, refl, sym, ap, _∙_}
+use mathlib.Core.Path.{_≡_, refl, sym, _∙_}
 use mathlib.Core.Bool.{Bool, true, false, cond, _&&_}
+use mathlib.Core.List.{[], _∷_}
 use native.Mathlib.Omega.{arith}
 use native.Mathlib.Nat.{div-add-mod', div-div-eq-div-mul, mod-eq-of-lt}
 use borrow.Author.Tests.{eqb-true, ltb-true, ne-eqb}
 use lib.Dec.{eqb}
-use Rattle.answer.specs.Answer.{Answer, refused, given, after, number}
-use Rattle.answer.proofs.Answers.{equation, numbered, paired}
-use Rattle.label.specs.declared.Label.{Label}
-use Rattle.label.specs.declared.Refusal.{Refusal}
-use Rattle.label.specs.declared.Refusal.the-variants.{Length, AddressDamaged, OtherPacket, DesignationDamaged, OtherDesignation, LabelDamaged}
-use Rattle.label.specs.declared.Reading.{Reading}
-use Rattle.label.specs.declared.Reading.the-variants.{Refused, Read}
-use Rattle.label.specs.declared.Written.{Written}
-use Rattle.label.specs.declared.Written.the-variants.{WrongLength, TooWide, Done}
+use Rattle.answer.proofs.Answers.{equation}
 use Rattle.label.specs.declared.pil.Service.the-variants.{Programme}
-use Rattle.label.specs.Packet.{refusalNumber, readingAnswer, readingOf, writtenNumber, writingOf}
+use Rattle.hamming.specs.Byte.{D}
+use Rattle.label.specs.Layout.{numberFrom}
+use Rattle.label.specs.Packet.{refusalNumber, writtenNumber}
 use Rattle.label.specs.Pil.{twentyBits, dayOf, monthOf, hourOf, minuteOf, partsOf, serviceAt, noSpecificValue, serviceOf}
 use Rattle.label.specs.Laws.{Laws}
 use Rattle.label.proofs.Round.{back, right, kept}
@@ -54,38 +49,6 @@ module _ (pil : ℕ) (a : pil ≡ 0b00000_1111_11111_111111 → ⊥) (b : pil �
       go true false y z p q r s = refl
       go false x y z p q r s = refl
 
--- ── one outcome ────────────────────────────────────────────────────────────────────────────────────────────────────
-named : ℕ → Refusal
-named n =
-    cond (eqb n 1) Length
-    (cond (eqb n 2) AddressDamaged
-    (cond (eqb n 3) OtherPacket (cond (eqb n 4) DesignationDamaged (cond (eqb n 5) OtherDesignation LabelDamaged))))
-
-named-back : (r : Refusal) → named (refusalNumber r) ≡ r
-unfolding named
-named-back Length = refl
-named-back AddressDamaged = refl
-named-back OtherPacket = refl
-named-back DesignationDamaged = refl
-named-back OtherDesignation = refl
-named-back LabelDamaged = refl
-
-abbrev reading : Answer Label → Reading
-reading (refused n) = Refused (named n)
-reading (given l) = Read l
-
-reading-back : (r : Reading) → reading (readingAnswer r) ≡ r
-reading-back (Refused r) = ap Refused (named-back r)
-reading-back (Read l) = refl
-
-abbrev outcome : ℕ → Written
-outcome n = cond (eqb n 1) WrongLength (cond (eqb n 16) TooWide Done)
-
-outcome-back : (w : Written) → outcome (writtenNumber w) ≡ w
-outcome-back WrongLength = refl
-outcome-back TooWide = refl
-outcome-back Done = refl
-
 pub laws : Laws
 laws = record {
   back = back;
@@ -101,13 +64,8 @@ laws = record {
   continuation = unfold serviceOf in refl;
   no-specific-value = unfold serviceOf in refl;
   programme = programme;
-  read-unique =
-      λ p. paired (λ r. readingAnswer r ≡ readingOf p) (λ q. q ≡ p) (numbered readingAnswer reading reading-back (readingOf p)) (equation p);
+  turned-unique = λ v r s p q. equation (numberFrom 0 (D 1 v ∷ D 2 v ∷ D 3 v ∷ D 4 v ∷ [])) r s (p .0) (q .0);
   refusal-number-unique = λ r. equation (refusalNumber r);
-  write-unique =
-      λ l p.
-      paired (λ w. writtenNumber w ≡ number (writingOf l p)) (λ q. q ≡ after p (writingOf l p)) (numbered writtenNumber outcome outcome-back (number (writingOf l p)))
-      (equation (after p (writingOf l p)));
   written-number-unique = λ w. equation (writtenNumber w);
   parts-unique = λ pil. equation (partsOf pil);
   service-unique = λ pil. equation (serviceOf pil);

@@ -2,18 +2,18 @@
 use Prim.Native.Nat.{ℕ, _≤_, _<_}
 use mathlib.Core.Path.{_≡_}
 use mathlib.Core.Bool.{true, false, cond}
-use mathlib.Core.List.{List}
+use mathlib.Core.List.{List, [], _∷_}
 use lib.Dec.{eqb, ltb}
 use lib.ListN.{length, getD}
-use Rattle.answer.specs.Answer.{Answer, refused, given, after, number, Unique}
+use Rattle.answer.specs.Answer.{Answer, refused, given, Unique}
 use Rattle.answer.specs.Lists.{member}
-use Rattle.hamming.specs.Byte.{good, distance}
+use Rattle.hamming.specs.Byte.{D, good, distance}
 use Rattle.label.specs.declared.Label.{Label}
 use Rattle.label.specs.declared.Refusal.{Refusal}
-use Rattle.label.specs.declared.Reading.{Reading}
 use Rattle.label.specs.declared.Written.{Written}
 use Rattle.label.specs.declared.pil.Service.the-variants.{Programme, TimerControl, InhibitTerminate, Interruption, Continuation, NoSpecificValue}
-use Rattle.label.specs.Packet.{refusalNumber, readingAnswer, readingOf, writtenNumber, writingOf, put, valueAt, hammingBytes}
+use Rattle.label.specs.Layout.{numberFrom}
+use Rattle.label.specs.Packet.{refusalNumber, readingOf, writtenNumber, writingOf, put, valueAt, hammingBytes}
 use Rattle.label.specs.Pil.{partsOf, serviceOf}
 
 -- something holds at each of the sixteen bytes
@@ -72,10 +72,8 @@ pub record Laws : Type 0 where
   pub programme : (pil : ℕ) → (pil ≡ 0b00000_1111_11111_111111 → ⊥) → (pil ≡ 0b00000_1111_11110_111111 → ⊥) →
       (pil ≡ 0b00000_1111_11101_111111 → ⊥) → (pil ≡ 0b00000_1111_11100_111111 → ⊥) → (pil ≡ 0b11111_1111_11111_111111 → ⊥) → serviceOf pil ≡ Programme
   -- each call's promise allows one outcome
-  pub read-unique : (p : List ℕ) → Unique {A = Reading × List ℕ} (λ o. (readingAnswer (o .0) ≡ readingOf p) × (o .1 ≡ p))
+  pub turned-unique : (v : ℕ) → Unique (λ r. (r ≡ numberFrom 0 (D 1 v ∷ D 2 v ∷ D 3 v ∷ D 4 v ∷ [])) × (r < 16))
   pub refusal-number-unique : (r : Refusal) → Unique (λ n. n ≡ refusalNumber r)
-  pub write-unique : (l : Label) (p : List ℕ) →
-      Unique {A = Written × List ℕ} (λ o. (writtenNumber (o .0) ≡ number (writingOf l p)) × (o .1 ≡ after p (writingOf l p)))
   pub written-number-unique : (w : Written) → Unique (λ n. n ≡ writtenNumber w)
   pub parts-unique : (pil : ℕ) → Unique (λ r. r ≡ partsOf pil)
   pub service-unique : (pil : ℕ) → Unique (λ r. r ≡ serviceOf pil)

@@ -4,9 +4,8 @@ ghost use mathlib.Core.Bool.{true};
 ghost use Rattle.label.specs.Laws.{Laws};
 ghost use Rattle.label.specs.Packet.{refusalNumber, writtenNumber};
 
+pub mod nibble; // its bits in the order in which they are sent
 pub mod pil; // the parts of a PIL, and the service codes
-pub mod reader; // from bytes to a label
-pub mod writer; // from a label to bytes
 
 pub struct Label {
     pub designation: u8,

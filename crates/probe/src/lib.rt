@@ -71,7 +71,7 @@ pub extern "C" fn probe_read(bytes: &[u8], out: &mut [u8]) -> u8
     if out.len() != 13 {
         return NOT_THIRTEEN;
     }
-    let r = label::reader::read(bytes);
+    let r = reader::read(bytes);
     match r {
         Reading::Refused(why) => why.number(),
         Reading::Read(l) => {
@@ -110,7 +110,7 @@ pub extern "C" fn probe_write(fields: &[u8], buf: &mut [u8]) -> u8
         return NOT_THIRTEEN;
     }
     let l = label_of(fields);
-    let w = label::writer::write(l, buf);
+    let w = writer::write(l, buf);
     w.number()
 }
 
