@@ -103,7 +103,7 @@ pub record Laws : Type 0 where
   pub walked-least : (n : ℕ) (d : Desk) → Walked n d (walkedIn n d)
   pub walked-unique : (n k : ℕ) (d : Desk) → Walked n d k → k ≡ walkedIn n d
   pub walked-short : (cs : List Call) (t : ℕ) → walkedTo t (reached cs) ≤ 36
-  -- every reachable desk, after every call and at every second inside a wait
+  -- every reachable desk, after every call and at every second that passes
   pub sound : (cs : List Call) (n : ℕ) → Sound (walk n (reached cs))
   -- no call passes the clock's end
   pub clock-within : (cs : List Call) → (reached cs) .clock ≤ clockEnd

@@ -1,4 +1,4 @@
--- What is claimed of reader, writer and PIL. Proved in proofs/Proved.antt.
+-- What is claimed of packet and PIL. Proved in proofs/Proved.antt.
 use Prim.Native.Nat.{ℕ, _≤_, _<_}
 use mathlib.Core.Path.{_≡_}
 use mathlib.Core.Bool.{true, false, cond}
