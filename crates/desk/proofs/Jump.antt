@@ -65,7 +65,7 @@ module _ (s : ℕ) (ls : List Stamped) (none : NoneStands s ls) (b : Booking) wh
   unfolding sightOf
   none-sight =
       rw (none-lowest (λ l. matches s b l && not (l .prf)) noLabel 0 ls (λ p. rw (none-matches p)))
-      (rw (at-none (λ l. matches s b l && l .prf) noLabel ls (λ p. rw (none-matches p))))
+      (rw (none-lowest (matches s b) noLabel 0 ls none-matches))
 
 -- what a copy that is not live becomes, held or free
 abbrev rested : Bool → Copy
@@ -87,7 +87,7 @@ nextCopy-rested : (s : ℕ) (ls : List Stamped) → NoneStands s ls → (b : Boo
 unfolding nextCopy
 nextCopy-rested s ls n b Free e = refl
 nextCopy-rested s ls n b Waiting e = rw (none-sight s ls n b) (cond-same (endedAt s b) Waiting)
-nextCopy-rested s ls n b Prepared e = rw (none-sight s ls n b) (cond-same (endedAt s b) Waiting)
+nextCopy-rested s ls n b (Prepared v) e = rw (none-sight s ls n b) (cond-same (endedAt s b) Waiting)
 nextCopy-rested s ls n b (Recording p mi) e = absurd (true≢false e)
 nextCopy-rested s ls n b (RunningOn p v) e = absurd (true≢false e)
 

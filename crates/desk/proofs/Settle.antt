@@ -4,12 +4,11 @@ use mathlib.Core.Path.{_≡_, refl}
 use mathlib.Core.Bool.{Bool, true, false, cond, not, _&&_, and-false}
 use mathlib.Core.List.{List, [], _∷_, map}
 use native.Mathlib.Omega.{arith}
-use borrow.Author.Tests.{lt-ltb, not-true}
+use borrow.Author.Tests.{lt-ltb, le-ltb, not-true}
 use lib.Dec.{ltb}
 use lib.ListN.{getD}
 use Rattle.answer.proofs.Cases.{both-true}
-use Rattle.answer.specs.Lists.{some}
-use Rattle.rule.specs.Rule.{noLabel, endedAt, matches, Found, nowhere, at, lowestFrom, lowest, sightBy, sightOf, recordingAt, notLive, movesOr, fromRecording, runFor, fromRunningOn, goesOn, held, nextCopy, nextTimer}
+use Rattle.rule.specs.Rule.{noLabel, endedAt, matches, Found, nowhere, at, lowestFrom, lowest, sightBy, sightOf, recordingAt, notLive, prepareFor, fromPrepared, movesOr, fromRecording, runFor, fromRunningOn, goesOn, held, nextCopy, nextTimer}
 use Rattle.rule.specs.declared.Stamped.{Stamped}
 use Rattle.rule.specs.declared.Booking.{Booking}
 use Rattle.rule.specs.declared.Copy.{Copy}
@@ -49,18 +48,28 @@ module _ (s : ℕ) (ls : List Stamped) (b : Booking) where
 
   pub start-matches : (q : ℕ) → sightOf s ls b ≡ Start q → Starts q
   unfolding sightOf
-  start-matches q e = go (lowest starts ls) (some (λ l. matches s b l && l .prf) ls) refl e
+  start-matches q e = go (lowest starts ls) (lowest (matches s b) ls) refl e
     where
       starts : Stamped → Bool
       starts l = matches s b l && not (l .prf)
 
-      go : (f : Found) (p : Bool) → lowest starts ls ≡ f → sightBy f p ≡ Start q → Starts q
-      go (at r) p d h =
+      go : (f g : Found) → lowest starts ls ≡ f → sightBy f g ≡ Start q → Starts q
+      go (at r) g d h =
           let z : r ≡ q = cc in
           let k = both-true (matches s b (getD ls r noLabel)) (not (getD ls r noLabel .prf)) (lowest-passes starts noLabel ls r d) in
           rw (← z) (k .0, not-true (getD ls r noLabel .prf) (k .1))
-      go nowhere true d h = (cc, cc)
-      go nowhere false d h = (cc, cc)
+      go nowhere (at r) d h = (cc, cc)
+      go nowhere nowhere d h = (cc, cc)
+
+  -- a place seen where none starts a copy matches
+  pub prepare-matches : (q : ℕ) → sightOf s ls b ≡ Prepare q → matches s b (getD ls q noLabel) ≡ true
+  unfolding sightOf
+  prepare-matches q e = go (lowest (λ l. matches s b l && not (l .prf)) ls) (lowest (matches s b) ls) refl e
+    where
+      go : (f g : Found) → lowest (matches s b) ls ≡ g → sightBy f g ≡ Prepare q → matches s b (getD ls q noLabel) ≡ true
+      go (at r) g d h = cc
+      go nowhere (at r) d h = let z : r ≡ q = cc in rw (← z) (lowest-passes (matches s b) noLabel ls r d)
+      go nowhere nowhere d h = cc
 
   abbrev Stays : Copy → Type 0
   Stays c = goesOn s ls b c ≡ c
@@ -69,10 +78,19 @@ module _ (s : ℕ) (ls : List Stamped) (b : Booking) where
   unfolding recordingAt fromRecording
   stays-at q m = rw m
 
-  stays-not-live : (g : Sight) → sightOf s ls b ≡ g → Stays (notLive ls g)
+  stays-not-live : (g : Sight) → sightOf s ls b ≡ g → Stays (notLive s ls g)
   stays-not-live (Start q) e = stays-at q (start-matches q e .0)
-  stays-not-live Prepare e = rw e
+  stays-not-live (Prepare q) e = rw (e, le-ltb prepareFor (s - s) (omega arith))
   stays-not-live Nothing e = rw e
+
+  stays-prepared : (v : ℕ) (g : Sight) → sightOf s ls b ≡ g → Stays (fromPrepared s ls v g)
+  stays-prepared v (Start q) e = stays-at q (start-matches q e .0)
+  stays-prepared v (Prepare q) e = go (ltb prepareFor (s - v)) refl
+    where
+      go : (t : Bool) → ltb prepareFor (s - v) ≡ t → Stays (cond t (recordingAt ls q) (Prepared v))
+      go true d = stays-at q (prepare-matches q e)
+      go false d = rw (e, d)
+  stays-prepared v Nothing e = rw e
 
   -- nothing starts it
   abbrev NoStart : Type 0
@@ -80,15 +98,15 @@ module _ (s : ℕ) (ls : List Stamped) (b : Booking) where
 
   stays-moves : (g : Sight) → sightOf s ls b ≡ g → (next : Copy) → (NoStart → Stays next) → Stays (movesOr ls g next)
   stays-moves (Start q) e next h = stays-at q (start-matches q e .0)
-  stays-moves Prepare e next h = h (λ c. rw e)
+  stays-moves (Prepare q) e next h = h (λ c. rw e)
   stays-moves Nothing e next h = h (λ c. rw e)
 
-  stays-running : (p v : ℕ) (t : Bool) → ltb (s - v) runFor ≡ t → NoStart → Stays (cond t (RunningOn p v) (notLive ls (sightOf s ls b)))
+  stays-running : (p v : ℕ) (t : Bool) → ltb (s - v) runFor ≡ t → NoStart → Stays (cond t (RunningOn p v) (notLive s ls (sightOf s ls b)))
   unfolding fromRunningOn
   stays-running p v true e h = rw e (h (RunningOn p v))
   stays-running p v false e h = stays-not-live (sightOf s ls b) refl
 
-  stays-left : (p : ℕ) (mi : Bool) → NoStart → Stays (cond mi (notLive ls (sightOf s ls b)) (RunningOn p s))
+  stays-left : (p : ℕ) (mi : Bool) → NoStart → Stays (cond mi (notLive s ls (sightOf s ls b)) (RunningOn p s))
   stays-left p true h = stays-not-live (sightOf s ls b) refl
   stays-left p false h = stays-running p s true (lt-ltb (s - s) runFor (omega arith)) h
 
@@ -96,17 +114,17 @@ module _ (s : ℕ) (ls : List Stamped) (b : Booking) where
   unfolding fromRecording fromRunningOn
   goesOn-stays Free = refl
   goesOn-stays Waiting = stays-not-live (sightOf s ls b) refl
-  goesOn-stays Prepared = stays-not-live (sightOf s ls b) refl
+  goesOn-stays (Prepared v) = stays-prepared v (sightOf s ls b) refl
   goesOn-stays (Recording p mi) = go (matches s b (getD ls p noLabel)) refl
     where
       next : Copy
-      next = cond mi (notLive ls (sightOf s ls b)) (RunningOn p s)
+      next = cond mi (notLive s ls (sightOf s ls b)) (RunningOn p s)
 
       go : (t : Bool) → matches s b (getD ls p noLabel) ≡ t → Stays (cond t (recordingAt ls p) (movesOr ls (sightOf s ls b) next))
       go true e = stays-at p e
       go false e = stays-moves (sightOf s ls b) refl next (stays-left p mi)
   goesOn-stays (RunningOn p v) =
-      stays-moves (sightOf s ls b) refl (cond (ltb (s - v) runFor) (RunningOn p v) (notLive ls (sightOf s ls b)))
+      stays-moves (sightOf s ls b) refl (cond (ltb (s - v) runFor) (RunningOn p v) (notLive s ls (sightOf s ls b)))
       (stays-running p v (ltb (s - v) runFor) refl)
 
   pub nextCopy-open : endedAt s b ≡ false → (c : Copy) → nextCopy s ls b c ≡ goesOn s ls b c

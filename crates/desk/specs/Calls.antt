@@ -108,7 +108,7 @@ cancelOf slot d = firstOf (slotRows slot d) (moment (withTimer slot noTimer d))
 abbrev pub copySays : Copy → Says
 copySays Free = record { state = 0; place = 0 }
 copySays Waiting = record { state = 0; place = 0 }
-copySays Prepared = record { state = 1; place = 0 }
+copySays (Prepared v) = record { state = 1; place = 0 }
 copySays (Recording p mi) = record { state = 2; place = p }
 copySays (RunningOn p v) = record { state = 3; place = p }
 

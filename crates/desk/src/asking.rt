@@ -18,7 +18,7 @@ fn state_of(c: Copy) -> State
     match c {
         Copy::Free => State::Waiting,
         Copy::Waiting => State::Waiting,
-        Copy::Prepared => State::Prepared,
+        Copy::Prepared { since: _ } => State::Prepared,
         Copy::Recording { place, mi: _ } => State::Recording { place },
         Copy::RunningOn { place, since: _ } => State::RunningOn { place },
     }

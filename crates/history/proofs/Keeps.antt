@@ -31,14 +31,14 @@ use Rattle.history.specs.Laws.{SinceBy, Sound}
 use Rattle.history.proofs.Lists.{getD-set, getD-same}
 use Rattle.history.proofs.Windows.{open-later, not-ended-before}
 use Rattle.history.proofs.Waits.{passTo-clock}
-use Rattle.history.proofs.Next.{Next, next-is, next-held, next-live, next-since, since-later}
+use Rattle.history.proofs.Next.{Next, next-is, next-held, next-live, next-since, next-within, since-later}
 use Rattle.history.proofs.Steps.{Step, same, hears, waits, passes, adds, cancels, step}
 
--- what holds before a moment: as Sound, but that a live copy's window may have ended by now
+-- what holds before a moment: as Sound, but that a live copy's window may have ended by now, and a prepared copy's 60 seconds
 record Pre (d : Desk) : Type 0 where
   pub sixteen : (length (d .places) ≡ 16) × (length (d .timers) ≡ 16)
   pub stamps : (p : ℕ) → getD (d .places) p noLabel .stamp ≤ d .clock
-  pub run-ons : (slot : ℕ) → SinceBy (d .clock) (timerAt d slot .copy)
+  pub seconds : (slot : ℕ) → SinceBy (d .clock) (timerAt d slot .copy)
   pub open-window : (slot : ℕ) → endedAt (d .clock) (timerAt d slot .booking) ≡ false → isLive (timerAt d slot .copy) ≡ true →
       openAt (d .clock) (timerAt d slot .booking) ≡ true
   pub no-twins : (i j : ℕ) → i < j → active (d .clock) (timerAt d i) ≡ true → active (d .clock) (timerAt d j) ≡ true →
@@ -67,7 +67,8 @@ unfolding moment
 sound-moment d h = record {
   sixteen = (h .sixteen .0, length-map (d .timers) (nextTimer (d .clock) (d .places)) ∙ h .sixteen .1);
   stamps = h .stamps;
-  run-ons = λ slot. next-since _ _ _ (copy-moment d slot) (h .run-ons slot);
+  seconds = λ slot. next-since _ _ _ (copy-moment d slot) (h .seconds slot);
+  prepared = λ slot. next-within _ _ _ (copy-moment d slot);
   open-window = λ slot e. rw (booking-moment d slot) (next-live _ _ _ (copy-moment d slot) (h .open-window slot) e);
   no-twins = λ i j l a b. rw (booking-moment d i, booking-moment d j) (h .no-twins i j l (sym (active-moment d i) ∙ a) (sym (active-moment d j) ∙ b));
   real = λ slot e. rw (booking-moment d slot) (h .real slot (sym (held-moment d slot) ∙ e));
@@ -85,7 +86,7 @@ pre-at : (s : ℕ) (d : Desk) → Sound d → d .clock ≤ s → Pre (clockedAt 
 pre-at s d h k = record {
   sixteen = h .sixteen;
   stamps = λ p. omega (arith, h .stamps p);
-  run-ons = λ slot. since-later (d .clock) s k (timerAt d slot .copy) (h .run-ons slot);
+  seconds = λ slot. since-later (d .clock) s k (timerAt d slot .copy) (h .seconds slot);
   open-window = λ slot e live. open-later (timerAt d slot .booking) (d .clock) s k (h .open-window slot live) e;
   no-twins = λ i j m a b. h .no-twins i j m (active-before (d .clock) s k (timerAt d i) a) (active-before (d .clock) s k (timerAt d j) b);
   real = h .real;
@@ -125,7 +126,7 @@ pre-label tuner l d h =
         | inl e ↦ rw (e .1) (heardAt-stamp (d .clock) l (getD (d .places) p noLabel) (h .stamps p))
         | inr e ↦ rw e (h .stamps q)
       ];
-      run-ons = h .run-ons;
+      seconds = h .seconds;
       open-window = h .open-window;
       no-twins = h .no-twins;
       real = h .real;
@@ -151,7 +152,7 @@ module _ (d : Desk) (slot : ℕ) (t : Timer) (h : Pre d) (dead : isLive (t .copy
       record {
         sixteen = (h .sixteen .0, length-set (d .timers) slot t ∙ h .sixteen .1);
         stamps = h .stamps;
-        run-ons = λ i. elim (at-slot i) [ inl e ↦ rw (e .1) since | inr e ↦ rw e (h .run-ons i) ];
+        seconds = λ i. elim (at-slot i) [ inl e ↦ rw (e .1) since | inr e ↦ rw e (h .seconds i) ];
         open-window = λ i. elim (at-slot i) [ inl e ↦ rw (e .1) (λ k l. absurd (true≢false (sym l ∙ dead))) | inr e ↦ rw e (h .open-window i) ];
         no-twins = λ i j l. elim (at-slot i) [
           | inl e ↦ elim (at-slot j) [ inl f ↦ absurd (omega (arith, e .0, f .0)) | inr f ↦ rw (e .1, f) (λ a b. apart a j b) ]
@@ -202,7 +203,8 @@ sound-fresh =
     record {
       sixteen = (refl, refl);
       stamps = λ p. rw (getD-same noLabel 16 p) (omega arith);
-      run-ons = λ slot. rw (free slot) tt;
+      seconds = λ slot. rw (free slot) tt;
+      prepared = λ slot. rw (free slot) tt;
       open-window = λ slot. rw (free slot) (λ k. absurd (true≢false (sym k)));
       no-twins = λ i j l. rw (free i, free j) (λ a. absurd (true≢false (sym a)));
       real = λ slot. rw (free slot) (λ k. absurd (true≢false (sym k)));

@@ -7,6 +7,8 @@ pub mod Next
 pub mod Steps
 pub mod Keeps
 pub mod OneCopy
+pub mod Sees
+pub mod Prepared
 pub mod Short
 pub mod Stays
 pub mod Proved

@@ -1,13 +1,13 @@
 -- How a copy can go on at a moment, by cases, and what they keep.
 use Prim.Native.Nat.{ℕ, _-_, _≤_, _<_}
-use mathlib.Core.Path.{_≡_, refl, sym}
+use mathlib.Core.Path.{_≡_, refl, sym, _∙_}
 use mathlib.Core.Bool.{Bool, true, false, cond, true≢false}
 use mathlib.Core.List.{List}
 use native.Mathlib.Omega.{arith}
-use borrow.Author.Tests.{ltb-true}
+use borrow.Author.Tests.{ltb-true, ltb-false}
 use lib.Dec.{ltb}
 use lib.ListN.{getD}
-use Rattle.rule.specs.Rule.{noLabel, openAt, endedAt, matches, sightOf, recordingAt, notLive, movesOr, fromRecording, runFor, fromRunningOn, goesOn, held, nextCopy, isLive}
+use Rattle.rule.specs.Rule.{noLabel, openAt, endedAt, matches, sightOf, recordingAt, notLive, prepareFor, fromPrepared, movesOr, fromRecording, runFor, fromRunningOn, goesOn, held, nextCopy, isLive}
 use Rattle.rule.specs.declared.Stamped.{Stamped}
 use Rattle.rule.specs.declared.Booking.{Booking}
 use Rattle.rule.specs.declared.Copy.{Copy}
@@ -15,8 +15,9 @@ use Rattle.rule.specs.declared.Copy.the-variants.{Free, Waiting, Prepared, Reco
 use Rattle.rule.specs.declared.Sight.{Sight}
 use Rattle.rule.specs.declared.Sight.the-variants.{Nothing, Prepare, Start}
 use Rattle.rule.proofs.Steps.{not-held, free-copy}
-use Rattle.desk.proofs.Settle.{start-matches, nextCopy-open, nextCopy-ended}
-use Rattle.history.specs.Laws.{SinceBy}
+use Rattle.desk.proofs.Settle.{start-matches, prepare-matches, nextCopy-open, nextCopy-ended}
+use Rattle.history.specs.Prepared.{preparedSince}
+use Rattle.history.specs.Laws.{SinceBy, PreparedBy}
 use Rattle.history.proofs.Windows.{matches-open}
 
 -- ── the cases ──────────────────────────────────────────────────────────────────────────────────────────────────────
@@ -27,7 +28,11 @@ module _ (s : ℕ) (ls : List Stamped) (b : Booking) where
   pub data Next (c : Copy) : Copy → Type 0 where
     free : c ≡ Free → Next c Free
     waits : held c ≡ true → Next c Waiting
-    prepares : held c ≡ true → Next c Prepared
+    -- it becomes prepared now, or still is
+    prepares : held c ≡ true → preparedSince s c ≡ s → Next c (Prepared s)
+    still : (v : ℕ) → c ≡ Prepared v → s - v ≤ prepareFor → Next c (Prepared v)
+    -- it has been for too long
+    at-last : (q v : ℕ) → c ≡ Prepared v → prepareFor < s - v → matches s b (labelAt q) ≡ true → Next c (recordingAt ls q)
     -- a label with PRF 0 starts or moves it
     starts : (q : ℕ) → held c ≡ true → matches s b (labelAt q) ≡ true → labelAt q .prf ≡ false → Next c (recordingAt ls q)
     -- it stays at its place
@@ -36,39 +41,48 @@ module _ (s : ℕ) (ls : List Stamped) (b : Booking) where
     leaves : (p : ℕ) (mi : Bool) → c ≡ Recording p mi → endedAt s b ≡ false → Next c (RunningOn p s)
     runs : (p v : ℕ) → c ≡ RunningOn p v → endedAt s b ≡ false → s - v < runFor → Next c (RunningOn p v)
 
-  next-not-live : (c : Copy) → held c ≡ true → (g : Sight) → sightOf s ls b ≡ g → Next c (notLive ls g)
-  next-not-live c h (Start q) e = let m = start-matches s ls b q e in starts q h (m .0) (m .1)
-  next-not-live c h Prepare e = prepares h
-  next-not-live c h Nothing e = waits h
+  next-not-live : (c : Copy) → held c ≡ true → preparedSince s c ≡ s → (g : Sight) → sightOf s ls b ≡ g → Next c (notLive s ls g)
+  next-not-live c h k (Start q) e = let m = start-matches s ls b q e in starts q h (m .0) (m .1)
+  next-not-live c h k (Prepare q) e = prepares h k
+  next-not-live c h k Nothing e = waits h
+
+  next-prepared : (v : ℕ) (g : Sight) → sightOf s ls b ≡ g → Next (Prepared v) (fromPrepared s ls v g)
+  next-prepared v (Start q) e = let m = start-matches s ls b q e in starts q refl (m .0) (m .1)
+  next-prepared v (Prepare q) e = go (ltb prepareFor (s - v)) refl
+    where
+      go : (t : Bool) → ltb prepareFor (s - v) ≡ t → Next (Prepared v) (cond t (recordingAt ls q) (Prepared v))
+      go true d = at-last q v refl (ltb-true prepareFor (s - v) d) (prepare-matches s ls b q e)
+      go false d = still v refl (ltb-false prepareFor (s - v) d)
+  next-prepared v Nothing e = waits refl
 
   next-moves : (c : Copy) → held c ≡ true → (g : Sight) → sightOf s ls b ≡ g → (n : Copy) → Next c n → Next c (movesOr ls g n)
   next-moves c h (Start q) e n k = let m = start-matches s ls b q e in starts q h (m .0) (m .1)
-  next-moves c h Prepare e n k = k
+  next-moves c h (Prepare q) e n k = k
   next-moves c h Nothing e n k = k
 
   next-open : endedAt s b ≡ false → (c : Copy) → Next c (goesOn s ls b c)
   unfolding fromRecording fromRunningOn
   next-open o Free = free refl
-  next-open o Waiting = next-not-live Waiting refl (sightOf s ls b) refl
-  next-open o Prepared = next-not-live Prepared refl (sightOf s ls b) refl
+  next-open o Waiting = next-not-live Waiting refl refl (sightOf s ls b) refl
+  next-open o (Prepared v) = next-prepared v (sightOf s ls b) refl
   next-open o (Recording p mi) = go (matches s b (labelAt p)) refl
     where
       c : Copy
       c = Recording p mi
 
-      left : (m : Bool) → Next c (cond m (notLive ls (sightOf s ls b)) (RunningOn p s))
-      left true = next-not-live c refl (sightOf s ls b) refl
+      left : (m : Bool) → Next c (cond m (notLive s ls (sightOf s ls b)) (RunningOn p s))
+      left true = next-not-live c refl refl (sightOf s ls b) refl
       left false = leaves p mi refl o
 
       go : (t : Bool) → matches s b (labelAt p) ≡ t →
-          Next c (cond t (recordingAt ls p) (movesOr ls (sightOf s ls b) (cond mi (notLive ls (sightOf s ls b)) (RunningOn p s))))
+          Next c (cond t (recordingAt ls p) (movesOr ls (sightOf s ls b) (cond mi (notLive s ls (sightOf s ls b)) (RunningOn p s))))
       go true e = stays p mi refl e
       go false e = next-moves c refl (sightOf s ls b) refl _ (left mi)
   next-open o (RunningOn p v) = next-moves (RunningOn p v) refl (sightOf s ls b) refl _ (go (ltb (s - v) runFor) refl)
     where
-      go : (t : Bool) → ltb (s - v) runFor ≡ t → Next (RunningOn p v) (cond t (RunningOn p v) (notLive ls (sightOf s ls b)))
+      go : (t : Bool) → ltb (s - v) runFor ≡ t → Next (RunningOn p v) (cond t (RunningOn p v) (notLive s ls (sightOf s ls b)))
       go true e = runs p v refl o (ltb-true (s - v) runFor e)
-      go false e = next-not-live (RunningOn p v) refl (sightOf s ls b) refl
+      go false e = next-not-live (RunningOn p v) refl refl (sightOf s ls b) refl
 
   pub next-is : (c : Copy) → Next c (nextCopy s ls b c)
   next-is c = go (endedAt s b) (held c) refl refl
@@ -83,7 +97,9 @@ module _ (s : ℕ) (ls : List Stamped) (b : Booking) where
   unfolding recordingAt
   next-held (free e) = rw e
   next-held (waits h) = sym h
-  next-held (prepares h) = sym h
+  next-held (prepares h k) = sym h
+  next-held (still v e k) = rw e
+  next-held (at-last q v e k m) = rw e
   next-held (starts q h m f) = sym h
   next-held (stays q mi e m) = rw e
   next-held (leaves p mi e o) = rw e
@@ -93,26 +109,56 @@ module _ (s : ℕ) (ls : List Stamped) (b : Booking) where
   pub next-live : {c n : Copy} → Next c n → (endedAt s b ≡ false → isLive c ≡ true → openAt s b ≡ true) → isLive n ≡ true → openAt s b ≡ true
   next-live (free e) h l = absurd (true≢false (sym l))
   next-live (waits k) h l = absurd (true≢false (sym l))
-  next-live (prepares k) h l = absurd (true≢false (sym l))
+  next-live (prepares k i) h l = absurd (true≢false (sym l))
+  next-live (still v e k) h l = absurd (true≢false (sym l))
+  next-live (at-last q v e k m) h l = matches-open b s (labelAt q) m
   next-live (starts q k m f) h l = matches-open b s (labelAt q) m
   next-live (stays q mi e m) h l = matches-open b s (labelAt q) m
   next-live (leaves p mi e o) h l = h o (rw e)
   next-live (runs p v e o r) h l = h o (rw e)
 
-  -- no copy runs on from after s
+  -- no copy is prepared or runs on from after s
   pub next-since : {c n : Copy} → Next c n → SinceBy s c → SinceBy s n
   unfolding recordingAt
   next-since (free e) h = tt
   next-since (waits k) h = tt
-  next-since (prepares k) h = tt
+  next-since (prepares k i) h = omega arith
+  next-since (still v e k) h = rw e at h
+  next-since (at-last q v e k m) h = tt
   next-since (starts q k m f) h = tt
   next-since (stays q mi e m) h = tt
   next-since (leaves p mi e o) h = omega arith
   next-since (runs p v e o r) h = rw e at h
 
+  -- and none is prepared for more than 60 seconds
+  pub next-within : {c n : Copy} → Next c n → PreparedBy s n
+  unfolding recordingAt
+  next-within (free e) = tt
+  next-within (waits k) = tt
+  next-within (prepares k i) = omega arith
+  next-within (still v e k) = omega arith
+  next-within (at-last q v e k m) = tt
+  next-within (starts q k m f) = tt
+  next-within (stays q mi e m) = tt
+  next-within (leaves p mi e o) = tt
+  next-within (runs p v e o r) = tt
+
+  -- a prepared copy keeps its second
+  pub next-prepared-since : {c n : Copy} → Next c n → (v : ℕ) → n ≡ Prepared v → v ≡ preparedSince s c
+  unfolding recordingAt
+  next-prepared-since (free e) v k = cc
+  next-prepared-since (waits h) v k = cc
+  next-prepared-since (prepares h i) v k = let z : s ≡ v = cc in sym z ∙ sym i
+  next-prepared-since (still u e l) v k = let z : u ≡ v = cc in rw e (sym z)
+  next-prepared-since (at-last q u e l m) v k = cc
+  next-prepared-since (starts q h m f) v k = cc
+  next-prepared-since (stays q mi e m) v k = cc
+  next-prepared-since (leaves p mi e o) v k = cc
+  next-prepared-since (runs p u e o r) v k = cc
+
 pub since-later : (s s′ : ℕ) → s ≤ s′ → (c : Copy) → SinceBy s c → SinceBy s′ c
 since-later s s′ k Free h = tt
 since-later s s′ k Waiting h = tt
-since-later s s′ k Prepared h = tt
+since-later s s′ k (Prepared v) h = omega arith
 since-later s s′ k (Recording p mi) h = tt
 since-later s s′ k (RunningOn p v) h = omega arith

@@ -20,7 +20,7 @@ use Rattle.history.proofs.Windows.{open-not-ended, open-in-window}
 pub live-held : (c : Copy) → isLive c ≡ true → held c ≡ true
 live-held Free e = e
 live-held Waiting e = refl
-live-held Prepared e = refl
+live-held (Prepared v) e = refl
 live-held (Recording p mi) e = refl
 live-held (RunningOn p v) e = refl
 

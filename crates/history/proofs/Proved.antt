@@ -10,6 +10,7 @@ use Rattle.history.proofs.Short.{walked-short}
 use Rattle.history.proofs.Keeps.{sound-walk, sound-reached, clock-within}
 use Rattle.history.proofs.OneCopy.{one-copy, no-two}
 use Rattle.history.proofs.Stays.{stays, starts}
+use Rattle.history.proofs.Prepared.{flag, since, break}
 
 pub laws : Laws
 unfolding walkedTo
@@ -27,4 +28,7 @@ laws =
       clock-within = clock-within;
       stays = λ cs. stays (reached cs) (sound-reached cs);
       starts = starts;
+      flag = λ cs. flag (reached cs) (sound-reached cs);
+      since = since;
+      break = break;
     }

@@ -18,14 +18,14 @@ use Rattle.desk.proofs.Settle.{walk-keeps}
 use Rattle.desk.proofs.Jump.{NoneStands, none-stands-next, none-matches, is-quiet, walk-add, walk-clock, walk-places}
 use Rattle.history.specs.Laws.{SinceBy, Sound}
 use Rattle.history.proofs.Walked.{walkedIn-le}
-use Rattle.history.proofs.Next.{Next, free, waits, prepares, starts, stays, leaves, runs, next-since, since-later}
+use Rattle.history.proofs.Next.{Next, free, waits, prepares, still, at-last, starts, stays, leaves, runs, next-since, since-later}
 use Rattle.history.proofs.Keeps.{copy-moment}
 
 -- where no label stands: no copy records, and each run-on is from u or before
 abbrev Spent : ℕ → Copy → Type 0
 Spent u Free = Unit {0}
 Spent u Waiting = Unit {0}
-Spent u Prepared = Unit {0}
+Spent u (Prepared v) = Unit {0}
 Spent u (Recording p mi) = ⊥
 Spent u (RunningOn p v) = v ≤ u
 
@@ -38,7 +38,9 @@ module _ (s : ℕ) (ls : List Stamped) (b : Booking) (none : NoneStands s ls) wh
       ((p v : ℕ) → c ≡ RunningOn p v → v ≤ u) → Spent u n
   next-spent u (free e) x y = tt
   next-spent u (waits k) x y = tt
-  next-spent u (prepares k) x y = tt
+  next-spent u (prepares k i) x y = tt
+  next-spent u (still v e k) x y = tt
+  next-spent u (at-last q v e k m) x y = none-here q m
   next-spent u (starts q k m f) x y = none-here q m
   next-spent u (stays q mi e m) x y = none-here q m
   next-spent u (leaves p mi e o) x y = x p mi e
@@ -47,7 +49,9 @@ module _ (s : ℕ) (ls : List Stamped) (b : Booking) (none : NoneStands s ls) wh
   spent-dead : (u : ℕ) → u + runFor ≤ s → {c n : Copy} → Next s ls b c n → Spent u c → isLive n ≡ false
   spent-dead u l (free e) h = refl
   spent-dead u l (waits k) h = refl
-  spent-dead u l (prepares k) h = refl
+  spent-dead u l (prepares k i) h = refl
+  spent-dead u l (still v e k) h = refl
+  spent-dead u l (at-last q v e k m) h = none-here q m
   spent-dead u l (starts q k m f) h = none-here q m
   spent-dead u l (stays q mi e m) h = none-here q m
   spent-dead u l (leaves p mi e o) h = absurd (rw e at h)
@@ -111,7 +115,7 @@ quiet-36 d h =
     let f = nextSecond e in
     let e-clock : e .clock ≡ d .clock + 5 = walk-clock 5 d in
     let none : NoneStands s (e .places) = rw (walk-places 5 d) (lapsed (d .clock) s (d .places) (h .stamps) (omega arith)) in
-    let first = spent-first e none (walk-keeps Since since-second 5 d (h .run-ons)) in
+    let first = spent-first e none (walk-keeps Since since-second 5 d (h .seconds)) in
     let last = walk-keeps (AllSpent s) (spent-second s) 29 f first in
     rw (walk-36 d) (spent-quiet s (walk 29 f) last (omega (arith, walk-clock 29 f)))
 

@@ -1,15 +1,15 @@
--- A recording stays with its place while its label stands there, and only a label with PRF 0 starts or moves a copy.
+-- A recording stays with its place while its label stands there, and what starts or moves a copy.
 use Prim.Native.Nat.{ℕ, zero, suc, _+_, _-_, _≤_}
 use mathlib.Core.Path.{_≡_, refl, sym, ap, _∙_}
 use mathlib.Core.Bool.{Bool, true, false, not, _&&_, true≢false}
 use mathlib.Core.List.{List, [], _∷_}
 use mathlib.Core.Logic.{_⊎_, inl, inr}
 use native.Mathlib.Omega.{arith}
-use borrow.Author.Tests.{leb-true, le-leb, eq-eqb, not-true}
+use borrow.Author.Tests.{leb-true, le-leb, lt-ltb, eq-eqb, not-true}
 use lib.Dec.{leb, eqb}
 use lib.ListN.{getD}
 use Rattle.answer.proofs.Cases.{both-true}
-use Rattle.rule.specs.Rule.{noLabel, standFor, stands, openAt, matches, at, recordingAt, fromRecording, nextCopy, nextTimer}
+use Rattle.rule.specs.Rule.{noLabel, standFor, stands, openAt, matches, at, recordingAt, prepareFor, fromRecording, nextCopy, nextTimer}
 use Rattle.rule.specs.declared.Stamped.{Stamped}
 use Rattle.rule.specs.declared.Booking.{Booking}
 use Rattle.rule.specs.declared.Copy.{Copy}
@@ -22,7 +22,7 @@ use Rattle.desk.specs.Calls.{roomIn, withLabel, withTimer, timerAt}
 use Rattle.desk.proofs.Settle.{lowest-passes, nextCopy-open}
 use Rattle.desk.proofs.Jump.{timerAt-moment, walk-clock}
 use Rattle.history.specs.Run.{Call, cancel, deskAfter}
-use Rattle.history.specs.Laws.{Sound, recordsAt}
+use Rattle.history.specs.Laws.{Sound, recordsAt, longPrepared}
 use Rattle.history.proofs.Lists.{getD-set}
 use Rattle.history.proofs.Windows.{open-not-ended, open-later, not-ended-before, matches-open}
 use Rattle.history.proofs.Next as next
@@ -33,15 +33,17 @@ use Rattle.history.proofs.OneCopy.{live-active}
 -- ── what starts a copy ─────────────────────────────────────────────────────────────────────────────────────────────
 module _ (s q : ℕ) (ls : List Stamped) (b : Booking) (c : Copy) (mi : Bool) where
   abbrev Started : Type 0
-  Started = (matches s b (getD ls q noLabel) ≡ true) × ((getD ls q noLabel .prf ≡ false) ⊎ (recordsAt q c ≡ true))
+  Started = (matches s b (getD ls q noLabel) ≡ true) × ((getD ls q noLabel .prf ≡ false) ⊎ (recordsAt q c ≡ true) ⊎ (longPrepared s c ≡ true))
 
   next-starts : {n : Copy} → Next s ls b c n → n ≡ Recording q mi → Started
   unfolding recordingAt
   next-starts (next.free e) k = (cc, inl (cc))
   next-starts (next.waits h) k = (cc, inl (cc))
-  next-starts (next.prepares h) k = (cc, inl (cc))
+  next-starts (next.prepares h i) k = (cc, inl (cc))
+  next-starts (next.still v e l) k = (cc, inl (cc))
+  next-starts (next.at-last r v e l m) k = let z : r ≡ q = cc in (rw (← z) m, inr (inr (rw e (lt-ltb prepareFor (s - v) l))))
   next-starts (next.starts r h m f) k = let z : r ≡ q = cc in rw (← z) (m, inl f)
-  next-starts (next.stays r i e m) k = let z : r ≡ q = cc in (rw (← z) m, inr (rw e (eq-eqb r q z)))
+  next-starts (next.stays r i e m) k = let z : r ≡ q = cc in (rw (← z) m, inr (inl (rw e (eq-eqb r q z))))
   next-starts (next.leaves p i e o) k = (cc, inl (cc))
   next-starts (next.runs p v e o r) k = (cc, inl (cc))
 

@@ -1,10 +1,10 @@
--- Demand 3 (document 01, 'The second-by-second rule' and 'How tight the statements are'). Proved in proofs/Proved.antt.
-use Prim.Native.Nat.{ℕ, _+_, _≤_, _<_}
+-- Demand 3 (document 01, 'The second-by-second rule' and 'How tight the statements are'; 02, #101). Proved in proofs/Proved.antt.
+use Prim.Native.Nat.{ℕ, _+_, _-_, _≤_, _<_}
 use mathlib.Core.Path.{_≡_}
 use mathlib.Core.Bool.{Bool, true, false, _&&_}
 use mathlib.Core.List.{List, [], _∷_, _++_, map}
 use mathlib.Core.Logic.{_⊎_}
-use lib.Dec.{eqb}
+use lib.Dec.{ltb, eqb}
 use lib.ListN.{length, getD}
 use Rattle.answer.specs.Answer.{Answer, refused, given}
 use Rattle.calendar.specs.Calendar.{clockEnd, windowIn}
@@ -20,6 +20,7 @@ use Rattle.sixteen.specs.Sixteen.{count, active, sameBooking}
 use Rattle.desk.specs.Moments.{fresh, moment, walk, quiet, walkedIn, walkedTo}
 use Rattle.desk.specs.Calls.{packetOf, askOf, timerAt}
 use Rattle.history.specs.Run.{Call, wait, cancel, deskAfter, answersOf, reached, accepted, givenOnes}
+use Rattle.history.specs.Prepared.{momentsIn, OnlyPrf1, PreparedThenRecords, preparedSince}
 
 abbrev pub Each : {A : Type 0} → (A → Type 0) → List A → Type 0
 Each P [] = Unit {0}
@@ -48,20 +49,30 @@ pub record Walked (n : ℕ) (d : Desk) (k : ℕ) : Type 0 where
 abbrev pub copyOf : ℕ → ℕ → Timer → Bool
 copyOf cni pil t = liveTimer t && eqb (t .booking .cni) cni && eqb (t .booking .pil) pil
 
--- the second since which a copy runs on is not after s
+-- the second since which a copy is prepared or runs on is not after s
 abbrev pub SinceBy : ℕ → Copy → Type 0
 SinceBy s Free = Unit {0}
 SinceBy s Waiting = Unit {0}
-SinceBy s Prepared = Unit {0}
+SinceBy s (Prepared v) = v ≤ s
 SinceBy s (Recording p mi) = Unit {0}
 SinceBy s (RunningOn p v) = v ≤ s
+
+-- a copy prepared at second s is so for at most 60 seconds
+abbrev pub PreparedBy : ℕ → Copy → Type 0
+PreparedBy s Free = Unit {0}
+PreparedBy s Waiting = Unit {0}
+PreparedBy s (Prepared v) = s ≤ v + 60
+PreparedBy s (Recording p mi) = Unit {0}
+PreparedBy s (RunningOn p v) = Unit {0}
 
 -- what every reachable desk keeps
 pub record Sound (d : Desk) : Type 0 where
   pub sixteen : (length (d .places) ≡ 16) × (length (d .timers) ≡ 16)
-  -- no stamp and no run-on lies after the clock
+  -- no stamp lies after the clock, and no second since which a copy is prepared or runs on
   pub stamps : (p : ℕ) → getD (d .places) p noLabel .stamp ≤ d .clock
-  pub run-ons : (slot : ℕ) → SinceBy (d .clock) (timerAt d slot .copy)
+  pub seconds : (slot : ℕ) → SinceBy (d .clock) (timerAt d slot .copy)
+  -- nor does a prepared copy's lie more than 60 seconds back
+  pub prepared : (slot : ℕ) → PreparedBy (d .clock) (timerAt d slot .copy)
   -- a live copy's window is open
   pub open-window : (slot : ℕ) → isLive (timerAt d slot .copy) ≡ true → openAt (d .clock) (timerAt d slot .booking) ≡ true
   -- no two timers that are held and not ended are the same
@@ -76,9 +87,17 @@ pub record Sound (d : Desk) : Type 0 where
 abbrev pub recordsAt : ℕ → Copy → Bool
 recordsAt q Free = false
 recordsAt q Waiting = false
-recordsAt q Prepared = false
+recordsAt q (Prepared v) = false
 recordsAt q (Recording p mi) = eqb p q
 recordsAt q (RunningOn p v) = false
+
+-- at second s a copy has been prepared for more than 60 seconds
+abbrev pub longPrepared : ℕ → Copy → Bool
+longPrepared s Free = false
+longPrepared s Waiting = false
+longPrepared s (Prepared v) = ltb 60 (s - v)
+longPrepared s (Recording p mi) = false
+longPrepared s (RunningOn p v) = false
 
 pub record Laws : Type 0 where
   -- the desk after the calls, what it says of every slot and every answer are those of the rule on the accepted calls alone
@@ -113,6 +132,17 @@ pub record Laws : Type 0 where
       timerAt d slot .copy ≡ Recording place mi → matches (e .clock) b (getD (d .places) place noLabel) ≡ true →
       matches (e .clock) b (getD (e .places) place noLabel) ≡ true →
       timerAt e slot ≡ record { booking = b; copy = recordingAt (e .places) place }
-  -- only a label with PRF 0 starts or moves a copy
+  -- only a label with PRF 0 starts or moves a copy, or more than 60 seconds of being prepared start it
   pub starts : (s q : ℕ) (ls : List Stamped) (b : Booking) (c : Copy) (mi : Bool) → nextCopy s ls b c ≡ Recording q mi →
-      (matches s b (getD ls q noLabel) ≡ true) × ((getD ls q noLabel .prf ≡ false) ⊎ (recordsAt q c ≡ true))
+      (matches s b (getD ls q noLabel) ≡ true) × ((getD ls q noLabel .prf ≡ false) ⊎ (recordsAt q c ≡ true) ⊎ (longPrepared s c ≡ true))
+  -- 'a timer that has been prepared without a break for more than 60 seconds starts recording at the lowest place that matches': where at every
+  -- moment up to v+61 some place matches and none with PRF 0, whatever else is heard, and the timer is not cancelled
+  pub flag : (cs : List Call) (slot v : ℕ) (later : List Call) →
+      let d = reached cs in let b = timerAt d slot .booking in
+      timerAt d slot .copy ≡ Prepared v → Each (λ c. c ≡ cancel slot → ⊥) later →
+      Each (λ e. e .clock ≤ v + 61 → OnlyPrf1 (e .clock) (e .places) b) (momentsIn later d) → PreparedThenRecords slot b v (momentsIn later d)
+  -- 'the copy keeps the second at which it became prepared', whichever place matches and however often the label is sent
+  pub since : (s v : ℕ) (ls : List Stamped) (b : Booking) (c : Copy) → nextCopy s ls b c ≡ Prepared v → v ≡ preparedSince s c
+  -- 'without a break': where a copy is not prepared at one moment, no later moment, of the same second or another, finds it prepared since before
+  pub break : (d : Desk) (slot : ℕ) (later : List Call) → ((u : ℕ) → timerAt d slot .copy ≡ Prepared u → ⊥) →
+      Each (λ e. (v : ℕ) → timerAt e slot .copy ≡ Prepared v → d .clock ≤ v) (momentsIn later d)

@@ -9,7 +9,7 @@ use Rattle.marked.specs.Marked.{Example, standsAfter, liveAfter, saysAft
 use Rattle.marked.proofs.Rules.{rules}
 use Rattle.marked.proofs.Standing.{standing, lapsed, renews, renews-not, kept, kept-until}
 use Rattle.marked.proofs.Terminated.{stops, runs, ends}
-use Rattle.marked.proofs.Prepared.{prepares}
+use Rattle.marked.proofs.Prepared.{prepares, prepared-to-60}
 use Rattle.marked.proofs.Twelve.{twelve, twelve-sheet}
 
 -- what each example gives is what the paper says
@@ -38,5 +38,6 @@ marked = record {
         kept-until t _ l c h code _ (omega arith) (omega arith),
         renews-not t _ l c h code (omega arith),
       );
-  eleven = λ s ls b c n h. let e = prepares s ls b h n in (e, ap isLive e);
+  eleven = λ s v ls b c n h. let e = prepares s ls b h n in (e, ap isLive e);
+  eleven-to-60 = prepared-to-60;
 }

@@ -30,7 +30,8 @@ use Rattle.desk.proofs.Jump.{timerAt-moment, walk-add, walk-clock, walk-places}
 use Rattle.history.proofs.Waits.{passTo-clock}
 use Rattle.history.proofs.Windows.{open-not-ended}
 use Rattle.marked.specs.Marked.{Terminated, NothingElse, Throughout, liveIn}
-use Rattle.marked.proofs.Prepared.{NoneStarts, moves-not, starts-not}
+use Rattle.history.proofs.Sees.{NoneStarts}
+use Rattle.marked.proofs.Prepared.{moves-not, starts-not}
 
 -- ── RI/T matches no timer ──────────────────────────────────────────────────────────────────────────────────────────
 -- a PIL whose window is open is real

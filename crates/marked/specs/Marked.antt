@@ -1,5 +1,5 @@
--- The marked examples of document 01: what the definitions give, beside what the paper says. Proved in proofs/Proved.antt.
-use Prim.Native.Nat.{ℕ, _+_, _-_, _*_, _≤_}
+-- The marked examples of document 01, the eleventh as 02 amends it (#101): what the definitions give, beside what the paper says. Proved in proofs/Proved.antt.
+use Prim.Native.Nat.{ℕ, zero, suc, _+_, _-_, _*_, _≤_}
 use mathlib.Core.Bool.{Bool, true, false}
 use mathlib.Core.Path.{_≡_}
 use mathlib.Core.List.{List, [], _∷_, _++_, map}
@@ -22,7 +22,9 @@ use Rattle.desk.specs.Moments.{fresh, walk, passTo, liveCount}
 use Rattle.reply.specs.Numbers.{Says}
 use Rattle.desk.specs.Calls.{placeOf, packetOf, timerAt, askOf}
 use Rattle.sheet.specs.Sheet.{sheetOf}
-use Rattle.history.specs.Run.{Call, packet, wait, add, ask, live, answersOf, reached}
+use Rattle.history.specs.Run.{Call, packet, wait, add, cancel, ask, live, answersOf, reached}
+use Rattle.history.specs.Prepared.{momentsIn, OnlyPrf1}
+use Rattle.history.specs.Laws.{Each}
 
 pub record Example : Type 0 where
   pub gives : List ℕ
@@ -115,6 +117,18 @@ saysOr (given s) = s .state ∷ s .place ∷ []
 unfoldable pub saysAfter : List Call → List ℕ
 saysAfter cs = saysOr (askOf 0 (reached cs))
 
+-- what slot 0 says, and how many timers are live
+abbrev pub stateAfter : List Call → List ℕ
+stateAfter cs = saysAfter cs ++ liveAfter cs ∷ []
+
+-- a timer, and its label with PRF 1 at t and n times again, every five seconds
+abbrev pub flaggedFrom : ℕ → ℕ → List Call
+flaggedFrom s zero = packet 0 s (sent (labelWith pilHere 1 0)) ∷ []
+flaggedFrom s (suc n) = packet 0 s (sent (labelWith pilHere 1 0)) ∷ flaggedFrom (s + 5) n
+
+abbrev pub flagged : ℕ → List Call
+flagged n = add here ∷ flaggedFrom t n
+
 -- the calls of the sheet, with questions between them
 abbrev pub takenOver : List Call
 takenOver =
@@ -181,10 +195,11 @@ examples =
       gives = standsAfter (continued 5) (t + 10) ∷ standsAfter (continued 5) (t + 11) ∷ standsAfter (continued 6) (t + 6) ∷ [];
       paper = 1 ∷ 0 ∷ 0 ∷ [];
     }
-    -- 11. 'a timer not live, with a match of PRF 1 only: prepared, not live': state 1 is prepared
+    -- 11. 'a timer not live, with a match of PRF 1 only: prepared, not live'; 02, #101: 'example 11 holds up to 60 seconds': state 1 is prepared,
+    -- also at t+60, and 2 recording, at place 0 and live, at t+61
     ∷ record {
-      gives = saysAfter (add here ∷ packet 0 t (sent (labelWith pilHere 1 0)) ∷ []) ++ (liveAfter (add here ∷ packet 0 t (sent (labelWith pilHere 1 0)) ∷ []) ∷ []);
-      paper = 1 ∷ 0 ∷ 0 ∷ [];
+      gives = stateAfter (flagged 0) ++ stateAfter (flagged 12) ++ stateAfter (flagged 12 ++ wait (t + 61) ∷ []);
+      paper = 1 ∷ 0 ∷ 0 ∷ 1 ∷ 0 ∷ 0 ∷ 2 ∷ 0 ∷ 1 ∷ [];
     }
     -- 12. 'the second tuner takes over the one copy from its run-on': between the packets the slot says 3, running on, at place 0, and after
     -- the last 2, recording, at place 4; one timer is live throughout
@@ -230,19 +245,18 @@ Throughout t P = (s : ℕ) → t ≤ s → s ≤ t + 30 → P s
 abbrev pub liveIn : ℕ → ℕ → Desk → Bool
 liveIn n slot d = liveTimer (timerAt (walk n d) slot)
 
--- 'a timer not live' at second s: it waits or is prepared, or 'goes on in this same moment as a timer that is not live' from a
--- recording with MI 1 whose label matches no longer, or from a run-on of thirty seconds
-pub data NotLive (s : ℕ) (ls : List Stamped) (b : Booking) : Copy → Type 0 where
-  waits : NotLive s ls b Waiting
-  is-prepared : NotLive s ls b Prepared
-  recorded : (p : ℕ) → matches s b (getD ls p noLabel) ≡ false → NotLive s ls b (Recording p true)
-  ran-on : (p v : ℕ) → v + 30 ≤ s → NotLive s ls b (RunningOn p v)
+-- 'a timer not live' at second s, and the second since which it is prepared if it is so now: it waits, or is prepared since v and for no more
+-- than 60 seconds, or 'goes on in this same moment as a timer that is not live' from a recording with MI 1 whose label matches no longer, or
+-- from a run-on of thirty seconds
+pub data NotLive (s : ℕ) (ls : List Stamped) (b : Booking) : Copy → ℕ → Type 0 where
+  waits : NotLive s ls b Waiting s
+  is-prepared : (v : ℕ) → s ≤ v + 60 → NotLive s ls b (Prepared v) v
+  recorded : (p : ℕ) → matches s b (getD ls p noLabel) ≡ false → NotLive s ls b (Recording p true) s
+  ran-on : (p v : ℕ) → v + 30 ≤ s → NotLive s ls b (RunningOn p v) s
 
--- 'a match of PRF 1 only': the label of some place matches, and each that matches has PRF 1
-pub record OnlyPrf1 (s : ℕ) (ls : List Stamped) (b : Booking) : Type 0 where
-  pub place : ℕ
-  pub matching : matches s b (getD ls place noLabel) ≡ true
-  pub only : (q : ℕ) → matches s b (getD ls q noLabel) ≡ true → getD ls q noLabel .prf ≡ true
+-- the timer of a slot is prepared since v, and not live
+abbrev pub IsPrepared : ℕ → ℕ → Desk → Type 0
+IsPrepared slot v d = (timerAt d slot .copy ≡ Prepared v) × (liveTimer (timerAt d slot) ≡ false)
 
 -- the one statement
 pub record Marked : Type 0 where
@@ -263,6 +277,12 @@ pub record Marked : Type 0 where
       × ((s : ℕ) → s ≤ t + 10 → stands s (heardAt (t + 5) c l) ≡ true)
       × (stands (t + 11) (heardAt (t + 5) c l) ≡ false)
       × (heardAt (t + 6) c l ≡ l)
-  -- 11. 'a timer not live, with a match of PRF 1 only: prepared, not live'
-  pub eleven : (s : ℕ) (ls : List Stamped) (b : Booking) (c : Copy) → NotLive s ls b c → OnlyPrf1 s ls b →
-      (nextCopy s ls b c ≡ Prepared) × (isLive (nextCopy s ls b c) ≡ false)
+  -- 11. 'a timer not live, with a match of PRF 1 only: prepared, not live', ..
+  pub eleven : (s v : ℕ) (ls : List Stamped) (b : Booking) (c : Copy) → NotLive s ls b c v → OnlyPrf1 s ls b →
+      (nextCopy s ls b c ≡ Prepared v) × (isLive (nextCopy s ls b c) ≡ false)
+  -- .. and 'example 11 holds up to 60 seconds': with such a match kept standing, at every moment up to v+60, whatever else is heard, while the
+  -- timer is not cancelled; v is t where it became prepared at t
+  pub eleven-to-60 : (cs : List Call) (slot v : ℕ) (later : List Call) → let d = reached cs in
+      timerAt d slot .copy ≡ Prepared v → Each (λ c. c ≡ cancel slot → ⊥) later →
+      Each (λ e. (e .clock ≤ v + 60) × OnlyPrf1 (e .clock) (e .places) (timerAt d slot .booking)) (momentsIn later d) →
+      Each (IsPrepared slot v) (momentsIn later d)

@@ -19,3 +19,10 @@ below s v n p =
       | yes h ↦ le-ltb s (v + n) h ∙ sym (le-ltb (s - v) n (omega arith))
       | no h ↦ lt-ltb s (v + n) (omega arith) ∙ sym (lt-ltb (s - v) n (omega arith))
     ]
+
+pub above : (s v n : ℕ) → ltb (v + n) s ≡ ltb n (s - v)
+above s v n =
+    elim (decLe s (v + n)) [
+      | yes h ↦ le-ltb (v + n) s h ∙ sym (le-ltb n (s - v) (omega arith))
+      | no h ↦ lt-ltb (v + n) s (omega arith) ∙ sym (lt-ltb n (s - v) (omega arith))
+    ]

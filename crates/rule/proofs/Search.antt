@@ -1,7 +1,7 @@
 -- A loop that searches a list: what is found from i on, over what is left from i on, at each turn and at the end.
 use Prim.Native.Nat.{ℕ, suc, _+_, _≤_, _<_}
 use mathlib.Core.Path.{_≡_, refl, sym, ap, _∙_}
-use mathlib.Core.Bool.{Bool, true, false, _||_}
+use mathlib.Core.Bool.{Bool, true, false}
 use mathlib.Core.List.{List, [], _∷_}
 use native.Mathlib.Omega.{arith}
 use native.Mathlib.Nat.{zero-add, add-zero, add-suc, suc-add}
@@ -22,12 +22,6 @@ module _ {A : Type 0} (f : A → Bool) (xs : List A) (i : ℕ) where
 
   pub lowest-none : length xs ≤ i → lowestFrom f i (drop i xs) ≡ nowhere
   lowest-none h = rw (drop-of-length-le xs h)
-
-  pub some-next : (d : A) → i < length xs → some f (drop i xs) ≡ (f (getD xs i d) || some f (drop (i + 1) xs))
-  some-next d h = rw (drop-cons xs i d h, add-one i)
-
-  pub some-past-end : length xs ≤ i → some f (drop i xs) ≡ false
-  some-past-end h = rw (drop-of-length-le xs h)
 
 -- ── the first of sixteen that passes ───────────────────────────────────────────────────────────────────────────────
 abbrev isAt : Found → Bool
@@ -87,7 +81,3 @@ module _ {A : Type 0} (f g : A → Bool) (wider : (x : A) → f x ≡ false → 
   pub lowest-past : (i : ℕ) (xs : List A) → lowestFrom g i xs ≡ lowestFrom g (i + before f xs) (drop (before f xs) xs)
   lowest-past i [] = refl
   lowest-past i (x ∷ xs) = by-test (f x) (λ e. rw (e, add-zero)) (λ e. rw (e, wider x e, add-suc, ← suc-add) (lowest-past (suc i) xs))
-
-  pub some-past : (xs : List A) → some g xs ≡ some g (drop (before f xs) xs)
-  some-past [] = refl
-  some-past (x ∷ xs) = by-test (f x) (λ e. rw e) (λ e. rw (e, wider x e) (some-past xs))

@@ -1,21 +1,20 @@
 -- What a timer sees: its labels share the window's test, so a look may leave it out and add it at the end.
 use Prim.Native.Nat.{ℕ, suc, _+_, _≤_, _<_}
-use mathlib.Core.Path.{_≡_, refl, _∙_}
-use mathlib.Core.Bool.{Bool, true, false, cond, not, _&&_, _||_, and-true, and-false, or-assoc, or-false}
+use mathlib.Core.Path.{_≡_, refl, sym, _∙_}
+use mathlib.Core.Bool.{Bool, true, false, cond, not, _&&_, and-true, and-false}
 use mathlib.Core.List.{List, [], _∷_}
-use lib.Dec.{eqb}
+use borrow.Author.Tests.{lt-leb}
+use lib.Dec.{leb, eqb}
 use lib.ListN.{length, getD, drop}
 use native.Mathlib.Nat.{zero-add}
-use Rattle.answer.proofs.Every.{all-of, some-same, none-some}
 use Rattle.answer.proofs.Cases.{by-test}
-use Rattle.answer.specs.Lists.{some}
-use Rattle.rule.specs.Rule.{noLabel, stands, nowhere, lowestFrom, sightBy, openAt, matches, sightOf}
+use Rattle.rule.specs.Rule.{noLabel, stands, Found, nowhere, at, lowestFrom, sightBy, openAt, matches, sightOf}
 use Rattle.rule.specs.Look.{named, firstWith, lookOf}
 use Rattle.rule.specs.declared.Stamped.{Stamped}
 use Rattle.rule.specs.declared.Booking.{Booking}
 use Rattle.rule.specs.declared.Sight.{Sight}
 use Rattle.rule.specs.declared.Sight.the-variants.{Nothing, Start}
-use Rattle.rule.proofs.Search.{lowest-hit, lowest-miss, lowest-none, lowest-past, some-next, some-past-end, some-past}
+use Rattle.rule.proofs.Search.{lowest-hit, lowest-miss, lowest-none, lowest-past}
 
 pub match-named : (s : ℕ) (b : Booking) (l : Stamped) → matches s b l ≡ (named s b l && openAt s b)
 unfolding matches named
@@ -31,47 +30,47 @@ module _ (s : ℕ) (b : Booking) (l : Stamped) where
   unfolding named
   named-other e = rw (e, and-false)
 
--- a label that is named and has not PRF 0 has PRF 1
-prepares : (a p : Bool) → (a && not p) ≡ false → a ≡ (a && p)
-prepares true true e = refl
-prepares true false e = e
-prepares false p e = refl
-
 -- ── one look over the places ───────────────────────────────────────────────────────────────────────────────────────
+-- the place found before, if there is one, or else what is found from here on
+abbrev firstOr : ℕ → Found → Found
+firstOr first f = cond (leb 16 first) f (at first)
+
 module _ (s : ℕ) (b : Booking) (ls : List Stamped) where
-  -- what is seen from place i on, where p says whether a label with PRF 1 was seen before
-  abbrev pub seenFrom : ℕ → Bool → Sight
-  seenFrom i p =
-      sightBy (lowestFrom (λ l. named s b l && not (l .prf)) i (drop i ls)) (p || some (λ l. named s b l && l .prf) (drop i ls))
+  -- what is seen from place i on, where a label of the programme was first seen at place `first`, 16 standing for none
+  abbrev pub seenFrom : ℕ → ℕ → Sight
+  seenFrom i first =
+      sightBy (lowestFrom (λ l. named s b l && not (l .prf)) i (drop i ls)) (firstOr first (lowestFrom (named s b) i (drop i ls)))
 
   -- a look misses nothing before the first place with the PIL
-  pub seen-first : lookOf s ls b ≡ seenFrom (firstWith ls (b .pil)) false
+  pub seen-first : lookOf s ls b ≡ seenFrom (firstWith ls (b .pil)) 16
   unfolding lookOf firstWith
   seen-first =
       let f : Stamped → Bool = λ l. eqb (l .pil) (b .pil) in
       rw (
         lowest-past f (λ l. named s b l && not (l .prf)) (λ l e. rw (named-other s b l e)) 0 ls,
-        some-past f (λ l. named s b l && l .prf) (λ l e. rw (named-other s b l e)) ls,
+        lowest-past f (named s b) (named-other s b) 0 ls,
         zero-add,
       )
 
-  module _ (i : ℕ) (p : Bool) where
-    pub seen-none : length ls ≤ i → seenFrom i p ≡ sightBy nowhere p
-    seen-none h = rw (lowest-none (λ l. named s b l && not (l .prf)) ls i h, some-past-end (λ l. named s b l && l .prf) ls i h, or-false p)
+  module _ (i first : ℕ) where
+    pub seen-none : length ls ≤ i → seenFrom i first ≡ sightBy nowhere (firstOr first nowhere)
+    seen-none h = rw (lowest-none (λ l. named s b l && not (l .prf)) ls i h, lowest-none (named s b) ls i h)
 
     module _ {m : Bool} (h : i < length ls) (e : m ≡ named s b (getD ls i noLabel)) where
-      pub seen-hit : (m && not (getD ls i noLabel .prf)) ≡ true → seenFrom i p ≡ Start i
+      pub seen-hit : (m && not (getD ls i noLabel .prf)) ≡ true → seenFrom i first ≡ Start i
       seen-hit t = rw (lowest-hit (λ l. named s b l && not (l .prf)) ls i noLabel h (rw (← e) t))
 
-      pub seen-miss : (m && not (getD ls i noLabel .prf)) ≡ false → seenFrom i p ≡ seenFrom (i + 1) (p || m)
-      seen-miss t =
-          rw (
-            lowest-miss (λ l. named s b l && not (l .prf)) ls i noLabel h (rw (← e) t),
-            some-next (λ l. named s b l && l .prf) ls i noLabel h,
-            ← e,
-            ← prepares m (getD ls i noLabel .prf) t,
-            or-assoc p m,
-          )
+      first-here : i < 16 → firstOr first (lowestFrom (named s b) i (drop i ls))
+          ≡ firstOr (cond (m && leb 16 first) i first) (lowestFrom (named s b) (i + 1) (drop (i + 1) ls))
+      first-here k =
+          by-test m
+          (λ t. by-test (leb 16 first)
+          (λ none. rw (lowest-hit (named s b) ls i noLabel h (sym e ∙ t), t, none, lt-leb 16 i k))
+          (λ one. rw (t, one, one)))
+          (λ t. rw (lowest-miss (named s b) ls i noLabel h (sym e ∙ t), t))
+
+      pub seen-miss : i < 16 → (m && not (getD ls i noLabel .prf)) ≡ false → seenFrom i first ≡ seenFrom (i + 1) (cond (m && leb 16 first) i first)
+      seen-miss k t = rw (lowest-miss (λ l. named s b l && not (l .prf)) ls i noLabel h (rw (← e) t), first-here k)
 
 -- ── the window, once for all places ────────────────────────────────────────────────────────────────────────────────
 lowest-open : {A : Type 0} (f g : A → Bool) → ((x : A) → f x ≡ g x) → (i : ℕ) (xs : List A) → lowestFrom f i xs ≡ lowestFrom g i xs
@@ -87,18 +86,16 @@ module _ (s : ℕ) (ls : List Stamped) (b : Booking) where
   unfolding sightOf lookOf
   sight-open e =
       let m : (l : Stamped) → matches s b l ≡ named s b l = λ l. rw (match-named s b l, e, and-true) in
-      let q : (l : Stamped) → (matches s b l && l .prf) ≡ (named s b l && l .prf) = λ l. rw (m l) in
       rw (
         lowest-open (λ l. matches s b l && not (l .prf)) (λ l. named s b l && not (l .prf)) (λ l. rw (m l)) 0 ls,
-        some-same (λ l. matches s b l && l .prf) (λ l. named s b l && l .prf) ls (all-of q ls),
+        lowest-open (matches s b) (named s b) m 0 ls,
       )
 
   pub sight-shut : openAt s b ≡ false → sightOf s ls b ≡ Nothing
   unfolding sightOf
   sight-shut e =
       let m : (l : Stamped) → matches s b l ≡ false = λ l. rw (match-named s b l, e, and-false) in
-      let q : (l : Stamped) → (matches s b l && l .prf) ≡ false = λ l. rw (m l) in
-      rw (lowest-shut (λ l. matches s b l && not (l .prf)) (λ l. rw (m l)) 0 ls, none-some (λ l. matches s b l && l .prf) ls (all-of q ls))
+      rw (lowest-shut (λ l. matches s b l && not (l .prf)) (λ l. rw (m l)) 0 ls, lowest-shut (matches s b) m 0 ls)
 
   pub sight-look : sightOf s ls b ≡ cond (openAt s b) (lookOf s ls b) Nothing
   sight-look = by-test (openAt s b) (λ o. rw o (sight-open o)) (λ o. rw o (sight-shut o))
@@ -108,4 +105,4 @@ module _ (s : ℕ) (ls : List Stamped) (b : Booking) where
 
   -- where no place has the PIL nothing is seen
   pub sight-without : length ls ≤ firstWith ls (b .pil) → sightOf s ls b ≡ Nothing
-  sight-without h = sight-nothing (seen-first s b ls ∙ seen-none s b ls (firstWith ls (b .pil)) false h)
+  sight-without h = sight-nothing (seen-first s b ls ∙ seen-none s b ls (firstWith ls (b .pil)) 16 h)

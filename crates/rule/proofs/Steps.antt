@@ -9,7 +9,7 @@ use Rattle.calendar.specs.declared.Window.{Window}
 use Rattle.calendar.specs.Calendar.{windowIn}
 use lib.ListN.{getD}
 use Rattle.answer.proofs.Cases.{by-test, both-true}
-use Rattle.rule.specs.Rule.{noLabel, openIn, closedIn, openAt, endedAt, matches, sightOf, recordingAt, notLive, movesOr, fromRecording, fromRunningOn, held, nextCopy, nextTimer}
+use Rattle.rule.specs.Rule.{noLabel, openIn, closedIn, openAt, endedAt, matches, sightOf, recordingAt, notLive, fromPrepared, movesOr, fromRecording, fromRunningOn, held, nextCopy, nextTimer}
 use Rattle.rule.specs.Look.{named}
 use Rattle.rule.specs.declared.Stamped.{Stamped}
 use Rattle.rule.specs.declared.Booking.{Booking}
@@ -36,23 +36,24 @@ match-open s b l e =
     by-test (endedAt s b) (λ d. absurd (true≢false (sym o ∙ ended-shut s b d))) (λ d. d)
 
 -- what is not live moves to the lowest place with PRF 0 too
-pub moves-not-live : (ls : List Stamped) (seen : Sight) → movesOr ls seen (notLive ls seen) ≡ notLive ls seen
-moves-not-live ls Nothing = refl
-moves-not-live ls Prepare = refl
-moves-not-live ls (Start q) = refl
+pub moves-not-live : (s : ℕ) (ls : List Stamped) (seen : Sight) → movesOr ls seen (notLive s ls seen) ≡ notLive s ls seen
+moves-not-live s ls Nothing = refl
+moves-not-live s ls (Prepare q) = refl
+moves-not-live s ls (Start q) = refl
 
 module _ (s : ℕ) (ls : List Stamped) (b : Booking) where
   -- once the window has ended a timer that is not live waits, also by what it sees
-  ended-waits : cond (endedAt s b) Waiting (notLive ls (sightOf s ls b)) ≡ notLive ls (sightOf s ls b)
-  ended-waits = by-test (endedAt s b) (λ e. rw (e, sight-shut s ls b (ended-shut s b e))) (λ e. rw e)
+  ended-waits : (by-sight : Sight → Copy) → by-sight Nothing ≡ Waiting →
+      cond (endedAt s b) Waiting (by-sight (sightOf s ls b)) ≡ by-sight (sightOf s ls b)
+  ended-waits f n = by-test (endedAt s b) (λ e. rw (e, sight-shut s ls b (ended-shut s b e)) (sym n)) (λ e. rw e)
 
-  pub next-waiting : nextCopy s ls b Waiting ≡ notLive ls (sightOf s ls b)
+  pub next-waiting : nextCopy s ls b Waiting ≡ notLive s ls (sightOf s ls b)
   unfolding nextCopy
-  next-waiting = ended-waits
+  next-waiting = ended-waits (notLive s ls) refl
 
-  pub next-prepared : nextCopy s ls b Prepared ≡ notLive ls (sightOf s ls b)
+  pub next-prepared : (v : ℕ) → nextCopy s ls b (Prepared v) ≡ fromPrepared s ls v (sightOf s ls b)
   unfolding nextCopy
-  next-prepared = ended-waits
+  next-prepared v = ended-waits (fromPrepared s ls v) refl
 
   -- what is live, by the tests that lead to each case
   pub live-over : (c : Copy) → held c ≡ true → endedAt s b ≡ true → nextCopy s ls b c ≡ Waiting
@@ -64,7 +65,7 @@ module _ (s : ℕ) (ls : List Stamped) (b : Booking) where
   recording-stays p mi m = rw (match-open s b (getD ls p noLabel) m, m)
 
   pub recording-leaves : (p : ℕ) (mi : Bool) → matches s b (getD ls p noLabel) ≡ false → endedAt s b ≡ false →
-      nextCopy s ls b (Recording p mi) ≡ movesOr ls (sightOf s ls b) (cond mi (notLive ls (sightOf s ls b)) (RunningOn p s))
+      nextCopy s ls b (Recording p mi) ≡ movesOr ls (sightOf s ls b) (cond mi (notLive s ls (sightOf s ls b)) (RunningOn p s))
   unfolding nextCopy fromRecording
   recording-leaves p mi m e = rw (e, m)
 
@@ -76,7 +77,7 @@ module _ (s : ℕ) (ls : List Stamped) (b : Booking) where
 pub not-held : (c : Copy) → held c ≡ false → c ≡ Free
 not-held Free e = refl
 not-held Waiting e = absurd (true≢false e)
-not-held Prepared e = absurd (true≢false e)
+not-held (Prepared v) e = absurd (true≢false e)
 not-held (Recording p mi) e = absurd (true≢false e)
 not-held (RunningOn p v) e = absurd (true≢false e)
 

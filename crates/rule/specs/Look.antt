@@ -4,7 +4,6 @@ use Prim.Native.Nat.{ℕ, suc}
 use mathlib.Core.Bool.{Bool, cond, not, _&&_}
 use mathlib.Core.List.{List, [], _∷_}
 use lib.Dec.{eqb}
-use Rattle.answer.specs.Lists.{some}
 use Rattle.rule.specs.Rule.{stands, lowest, sightBy}
 use Rattle.rule.specs.declared.Stamped.{Stamped}
 use Rattle.rule.specs.declared.Booking.{Booking}
@@ -24,4 +23,4 @@ unfoldable pub firstWith : List Stamped → ℕ → ℕ
 firstWith ls pil = before (λ l. eqb (l .pil) pil) ls
 
 unfoldable pub lookOf : ℕ → List Stamped → Booking → Sight
-lookOf s ls b = sightBy (lowest (λ l. named s b l && not (l .prf)) ls) (some (λ l. named s b l && l .prf) ls)
+lookOf s ls b = sightBy (lowest (λ l. named s b l && not (l .prf)) ls) (lowest (named s b) ls)

@@ -1,11 +1,10 @@
--- The second-by-second rule (document 01) for one timer. A second is a number of the clock; a place is a number from 0 to 15.
+-- The second-by-second rule (document 01, amended by 02) for one timer. A second is a number of the clock; a place is a number from 0 to 15.
 use Prim.Native.Nat.{ℕ, suc, _-_}
 use mathlib.Core.Bool.{Bool, true, false, cond, not, _&&_}
 use mathlib.Core.List.{List, [], _∷_}
 use lib.Dec.{ltb, leb, eqb}
 use lib.ListN.{getD}
 use Rattle.answer.specs.Answer.{Answer, refused, given}
-use Rattle.answer.specs.Lists.{some}
 use Rattle.label.specs.declared.Label.{Label}
 use Rattle.label.specs.declared.pil.Service.{Service}
 use Rattle.label.specs.declared.pil.Service.the-variants.{Programme, TimerControl, InhibitTerminate, Interruption, Continuation, NoSpecificValue}
@@ -91,14 +90,14 @@ lowestFrom f i (x ∷ xs) = cond (f x) (at i) (lowestFrom f (suc i) xs)
 abbrev pub lowest : {A : Type 0} → (A → Bool) → List A → Found
 lowest f xs = lowestFrom f 0 xs
 
-abbrev pub sightBy : Found → Bool → Sight
-sightBy (at q) prepared = Start q
-sightBy nowhere true = Prepare
-sightBy nowhere false = Nothing
+abbrev pub sightBy : Found → Found → Sight
+sightBy (at q) f = Start q
+sightBy nowhere (at q) = Prepare q
+sightBy nowhere nowhere = Nothing
 
--- 'the lowest match with PRF 0'; 'failing that, any match with PRF 1'
+-- 'the lowest match with PRF 0'; 'failing that, any match with PRF 1', and of these 'the lowest place that matches' (02, #101)
 unfoldable pub sightOf : ℕ → List Stamped → Booking → Sight
-sightOf s ls b = sightBy (lowest (λ l. matches s b l && not (l .prf)) ls) (some (λ l. matches s b l && l .prf) ls)
+sightOf s ls b = sightBy (lowest (λ l. matches s b l && not (l .prf)) ls) (lowest (matches s b) ls)
 
 -- ── Moments: how a copy goes on at second s ────────────────────────────────────────────────────────────────────────
 -- 'whenever a copy becomes recording at a place or moves to one, it remembers the MI of the label there'
@@ -106,15 +105,27 @@ unfoldable pub recordingAt : List Stamped → ℕ → Copy
 recordingAt ls p = Recording p (getD ls p noLabel .mi)
 
 -- 'not live: the lowest match with PRF 0 makes it recording. Failing that, any match with PRF 1 makes it prepared. Else it waits.'
-abbrev pub notLive : List Stamped → Sight → Copy
-notLive ls (Start q) = recordingAt ls q
-notLive ls Prepare = Prepared
-notLive ls Nothing = Waiting
+-- 'The copy keeps the second at which it became prepared' (02, #101), which is this one
+abbrev pub notLive : ℕ → List Stamped → Sight → Copy
+notLive s ls (Start q) = recordingAt ls q
+notLive s ls (Prepare q) = Prepared s
+notLive s ls Nothing = Waiting
+
+-- how long a copy is prepared
+abbrev pub prepareFor : ℕ
+prepareFor = 60
+
+-- prepared from second v, it goes on as a timer that is not live, but that it keeps its second, and: 'a timer that has been prepared without a
+-- break for more than 60 seconds now starts recording at the lowest place that matches' (02, #101)
+abbrev pub fromPrepared : ℕ → List Stamped → ℕ → Sight → Copy
+fromPrepared s ls v (Start q) = recordingAt ls q
+fromPrepared s ls v (Prepare q) = cond (ltb prepareFor (s - v)) (recordingAt ls q) (Prepared v)
+fromPrepared s ls v Nothing = Waiting
 
 -- to the lowest place with a match and PRF 0, or else as is said next
 abbrev pub movesOr : List Stamped → Sight → Copy → Copy
 movesOr ls (Start q) next = recordingAt ls q
-movesOr ls Prepare next = next
+movesOr ls (Prepare q) next = next
 movesOr ls Nothing next = next
 
 -- 'if p's label still matches, it stays so, whichever PRF is sent, and remembers that label's MI. If not, it moves to the lowest place with a
@@ -123,7 +134,7 @@ movesOr ls Nothing next = next
 unfoldable pub fromRecording : ℕ → List Stamped → Booking → ℕ → Bool → Copy
 fromRecording s ls b p mi =
     cond (matches s b (getD ls p noLabel)) (recordingAt ls p)
-    (movesOr ls (sightOf s ls b) (cond mi (notLive ls (sightOf s ls b)) (RunningOn p s)))
+    (movesOr ls (sightOf s ls b) (cond mi (notLive s ls (sightOf s ls b)) (RunningOn p s)))
 
 -- how long a copy runs on
 abbrev pub runFor : ℕ
@@ -133,20 +144,20 @@ runFor = 30
 -- moment as a timer that is not live.'
 unfoldable pub fromRunningOn : ℕ → List Stamped → Booking → ℕ → ℕ → Copy
 fromRunningOn s ls b p v =
-    movesOr ls (sightOf s ls b) (cond (ltb (s - v) runFor) (RunningOn p v) (notLive ls (sightOf s ls b)))
+    movesOr ls (sightOf s ls b) (cond (ltb (s - v) runFor) (RunningOn p v) (notLive s ls (sightOf s ls b)))
 
 -- the copy's next state, by cases of its present one
 abbrev pub goesOn : ℕ → List Stamped → Booking → Copy → Copy
 goesOn s ls b Free = Free
-goesOn s ls b Waiting = notLive ls (sightOf s ls b)
-goesOn s ls b Prepared = notLive ls (sightOf s ls b)
+goesOn s ls b Waiting = notLive s ls (sightOf s ls b)
+goesOn s ls b (Prepared v) = fromPrepared s ls v (sightOf s ls b)
 goesOn s ls b (Recording p mi) = fromRecording s ls b p mi
 goesOn s ls b (RunningOn p v) = fromRunningOn s ls b p v
 
 abbrev pub held : Copy → Bool
 held Free = false
 held Waiting = true
-held Prepared = true
+held (Prepared v) = true
 held (Recording p mi) = true
 held (RunningOn p v) = true
 
@@ -161,7 +172,7 @@ nextTimer s ls t = record { booking = t .booking; copy = nextCopy s ls (t .booki
 abbrev pub isLive : Copy → Bool
 isLive Free = false
 isLive Waiting = false
-isLive Prepared = false
+isLive (Prepared v) = false
 isLive (Recording p mi) = true
 isLive (RunningOn p v) = true
 

@@ -1,6 +1,6 @@
 // Moments: the copy's next state, by cases of its present one.
 ghost use mathlib.Core.Path.{_≡_};
-ghost use Rattle.rule.specs.Rule.{recordingAt, notLive, movesOr, held, nextCopy, nextTimer, isLive, sightOf};
+ghost use Rattle.rule.specs.Rule.{recordingAt, notLive, fromPrepared, movesOr, held, nextCopy, nextTimer, isLive, sightOf};
 use crate::Booking;
 use crate::Copy;
 use crate::Sight;
@@ -14,6 +14,9 @@ use crate::places::label_at;
 // 'It runs on while s - v < 30.'
 const RUN_FOR: u64 = 30;
 
+// 'Prepared without a break for more than 60 seconds.'
+const PREPARE_FOR: u64 = 60;
+
 // 'It remembers the MI of the label there.'
 fn recording_at(places: [Stamped; 16], p: u8) -> Copy
     ensures { λ r. ⌜ r ≡ recordingAt places p ⌝ }
@@ -23,14 +26,26 @@ fn recording_at(places: [Stamped; 16], p: u8) -> Copy
 }
 
 // 'Not live: the lowest match with PRF 0 makes it recording. Failing that, any match with PRF 1 makes it prepared. Else it waits.'
-fn not_live(places: [Stamped; 16], seen: Sight) -> Copy
-    ensures { λ r. ⌜ r ≡ notLive places seen ⌝ }
+// 'The copy keeps the second at which it became prepared.'
+fn not_live(s: u32, places: [Stamped; 16], seen: Sight) -> Copy
+    ensures { λ r. ⌜ r ≡ notLive s places seen ⌝ }
 {
     match seen {
         Sight::Nothing => Copy::Waiting,
-        Sight::Prepare => Copy::Prepared,
+        Sight::Prepare(_) => Copy::Prepared { since: s },
         Sight::Start(q) => recording_at(places, q),
     }
+}
+
+// 'For more than 60 seconds now starts recording at the lowest place that matches.' As in `stands`, the sum has 64 bits.
+fn prepared_from(s: u32, places: [Stamped; 16], v: u32, q: u8) -> Copy
+    ensures { λ r. ⌜ r ≡ fromPrepared s places v (Sight.Prepare q) ⌝ }
+{
+    let long = (v as u64 + PREPARE_FOR) < s as u64;
+    if long {
+        return recording_at(places, q);
+    }
+    Copy::Prepared { since: v }
 }
 
 // 'The lowest place with a match and PRF 0', or else what is said next.
@@ -39,7 +54,7 @@ fn moves_or(places: [Stamped; 16], seen: Sight, next: Copy) -> Copy
 {
     match seen {
         Sight::Nothing => next,
-        Sight::Prepare => next,
+        Sight::Prepare(_) => next,
         Sight::Start(q) => recording_at(places, q),
     }
 }
@@ -64,7 +79,7 @@ fn from_recording(s: u32, places: [Stamped; 16], b: Booking, p: u8, mi: bool) ->
     }
     let seen = sight_of(s, places, b);
     if mi {
-        return not_live(places, seen);
+        return not_live(s, places, seen);
     }
     moves_or(places, seen, Copy::RunningOn { place: p, since: s })
 }
@@ -82,15 +97,27 @@ fn from_running_on(s: u32, places: [Stamped; 16], b: Booking, p: u8, v: u32) -> 
     if on {
         return moves_or(places, seen, Copy::RunningOn { place: p, since: v });
     }
-    not_live(places, seen)
+    not_live(s, places, seen)
 }
 
 // A copy that is not live sees nothing once its window has closed, so nothing asks here whether it has.
-fn from_not_live(s: u32, places: [Stamped; 16], b: Booking) -> Copy
-    ensures { λ r. ⌜ r ≡ notLive places (sightOf s places b) ⌝ }
+fn from_waiting(s: u32, places: [Stamped; 16], b: Booking) -> Copy
+    ensures { λ r. ⌜ r ≡ notLive s places (sightOf s places b) ⌝ }
 {
     let seen = sight_of(s, places, b);
-    not_live(places, seen)
+    not_live(s, places, seen)
+}
+
+// 'Without a break': what waits has no second, and being prepared later counts anew.
+fn from_prepared(s: u32, places: [Stamped; 16], b: Booking, v: u32) -> Copy
+    ensures { λ r. ⌜ r ≡ fromPrepared s places v (sightOf s places b) ⌝ }
+{
+    let now = sight_of(s, places, b);
+    match now {
+        Sight::Nothing => Copy::Waiting, // a break
+        Sight::Prepare(q) => prepared_from(s, places, v, q),
+        Sight::Start(q) => recording_at(places, q),
+    }
 }
 
 // The copy's next state, by cases of its present one.
@@ -99,8 +126,8 @@ fn next_copy(s: u32, places: [Stamped; 16], b: Booking, c: Copy) -> Copy
 {
     match c {
         Copy::Free => Copy::Free,
-        Copy::Waiting => from_not_live(s, places, b),
-        Copy::Prepared => from_not_live(s, places, b),
+        Copy::Waiting => from_waiting(s, places, b),
+        Copy::Prepared { since } => from_prepared(s, places, b, since),
         Copy::Recording { place, mi } => from_recording(s, places, b, place, mi),
         Copy::RunningOn { place, since } => from_running_on(s, places, b, place, since),
     }
@@ -125,7 +152,7 @@ pub fn is_live(c: Copy) -> bool
     match c {
         Copy::Free => false,
         Copy::Waiting => false,
-        Copy::Prepared => false,
+        Copy::Prepared { since: _ } => false,
         Copy::Recording { place: _, mi: _ } => true,
         Copy::RunningOn { place: _, since: _ } => true,
     }
@@ -138,7 +165,7 @@ pub fn is_held(c: Copy) -> bool
     match c {
         Copy::Free => false,
         Copy::Waiting => true,
-        Copy::Prepared => true,
+        Copy::Prepared { since: _ } => true,
         Copy::Recording { place: _, mi: _ } => true,
         Copy::RunningOn { place: _, since: _ } => true,
     }

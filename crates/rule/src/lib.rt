@@ -32,7 +32,7 @@ pub struct Booking {
 pub enum Copy {
     Free,
     Waiting,
-    Prepared,
+    Prepared { since: u32 },
     Recording { place: u8, mi: bool },
     RunningOn { place: u8, since: u32 },
 }
@@ -42,10 +42,10 @@ pub struct Timer {
     pub copy: Copy,
 }
 
-// What a timer that is not live goes by: the lowest match with PRF 0, failing that any match with PRF 1.
+// What a timer that is not live goes by: the lowest match with PRF 0, failing that the lowest of all, which have PRF 1.
 pub enum Sight {
     Nothing,
-    Prepare,
+    Prepare(u8),
     Start(u8),
 }
 

@@ -1,5 +1,6 @@
 // Match: whose label stands where, and what a timer sees.
-ghost use mathlib.Core.Bool.{cond};
+ghost use lib.Dec.{leb};
+ghost use mathlib.Core.Bool.{cond, _&&_};
 ghost use mathlib.Core.Path.{_≡_};
 ghost use Rattle.rule.specs.Rule.{openAt, endedAt, matches, sightOf};
 ghost use Rattle.rule.specs.Look.{named, firstWith, lookOf};
@@ -54,12 +55,22 @@ pub(crate) fn matches(s: u32, b: Booking, l: Stamped) -> bool
     false
 }
 
+// The lowest place so far whose label is ours; 16 stands for none.
+fn first_of(first: usize, ours: bool, i: usize) -> usize
+    ensures { λ r. ⌜ r ≡ cond (ours && leb 16 first) i first ⌝ }
+{
+    if ours & (16 <= first) {
+        return i;
+    }
+    first
+}
+
 // One look at the places from the first with the PIL on, as if the window were open; a label with PRF 0 ends it, since no other can come before it.
 fn look(s: u32, places: [Stamped; 16], b: Booking, from: usize) -> Sight
     requires { ⌜ from ≡ firstWith places (b .pil) ⌝ }
     ensures { λ r. ⌜ r ≡ lookOf s places b ⌝ }
 {
-    let mut prepared = false;
+    let mut first: usize = 16;
     let mut i = from;
     while i < 16 {
         let l = places[i];
@@ -68,14 +79,14 @@ fn look(s: u32, places: [Stamped; 16], b: Booking, from: usize) -> Sight
             let place = i as u8;
             return Sight::Start(place);
         }
-        prepared = prepared | ours;
+        first = first_of(first, ours, i);
         i += 1;
     }
-    if prepared {
-        Sight::Prepare
-    } else {
-        Sight::Nothing
+    if first < 16 {
+        let place = first as u8;
+        return Sight::Prepare(place);
     }
+    Sight::Nothing
 }
 
 fn if_open(s: u32, b: Booking, seen: Sight) -> Sight
@@ -97,7 +108,7 @@ pub(crate) fn sight_of(s: u32, places: [Stamped; 16], b: Booking) -> Sight
     let seen = look(s, places, b, from);
     match seen {
         Sight::Nothing => Sight::Nothing,
-        Sight::Prepare => if_open(s, b, seen),
+        Sight::Prepare(_) => if_open(s, b, seen),
         Sight::Start(_) => if_open(s, b, seen),
     }
 }

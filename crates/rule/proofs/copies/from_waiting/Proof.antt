@@ -1,7 +1,7 @@
 -- What is seen, and what follows from it.
 use borrow.Author.Needs.{needs}
-use Rattle.rule.proofs.copies.from_not_live.Statement.{statement}
-use Rattle.rule.proofs.copies.from_not_live.Tie as tie
+use Rattle.rule.proofs.copies.from_waiting.Statement.{statement}
+use Rattle.rule.proofs.copies.from_waiting.Tie as tie
 
 sight-of-requires : tie.Need-sight-of-requires
 sight-of-requires c κs = search needs
@@ -12,5 +12,5 @@ not-live-requires c κs = search needs
 returns : tie.Need-returns
 returns c = rw (← c .before .sight-of .ensures) (c .not-live .ensures)
 
-pub from-not-live-spec : {M : Type 1} → statement M
-from-not-live-spec = tie.close (tie.spec sight-of-requires not-live-requires returns)
+pub from-waiting-spec : {M : Type 1} → statement M
+from-waiting-spec = tie.close (tie.spec sight-of-requires not-live-requires returns)

@@ -1,0 +1,45 @@
+-- By cases of what is seen.
+use borrow.Author.Needs.{needs}
+use Rattle.rule.proofs.copies.from_prepared.Statement.{statement}
+use Rattle.rule.proofs.copies.from_prepared.Tie as tie
+
+sight-of-requires : tie.Need-sight-of-requires
+sight-of-requires c κs = search needs
+
+enum-told : tie.Need-enum-told
+enum-told c = search needs
+
+enum-known-now : tie.Need-enum-known-now
+enum-known-now c = search needs
+
+prepared-from-requires : tie.Need-prepared-from-requires
+prepared-from-requires c κs = search needs
+
+enum-known-now-2 : tie.Need-enum-known-now-2
+enum-known-now-2 c = search needs
+
+recording-at-requires : tie.Need-recording-at-requires
+recording-at-requires c κs = search needs
+
+returns : tie.Need-returns
+returns c = rw (← c .before .before .sight-of .ensures, c .enum-told .given .1)
+
+returns-2 : tie.Need-returns-2
+returns-2 c = let b = c .before .before in rw (← b .before .before .sight-of .ensures, b .now .given .1) (c .prepared-from .ensures)
+
+returns-3 : tie.Need-returns-3
+returns-3 c = let b = c .before .before in rw (← b .before .before .sight-of .ensures, b .now2 .given .1) (c .recording-at .ensures)
+
+pub from-prepared-spec : {M : Type 1} → statement M
+from-prepared-spec =
+    tie.close
+    (tie.spec
+    sight-of-requires
+    enum-told
+    enum-known-now
+    prepared-from-requires
+    enum-known-now-2
+    recording-at-requires
+    returns
+    returns-2
+    returns-3)
