@@ -29,8 +29,8 @@ module _ (s : ℕ) (ls : List Stamped) (b : Booking) where
     free : c ≡ Free → Next c Free
     waits : held c ≡ true → Next c Waiting
     -- it becomes prepared now, or still is
-    prepares : held c ≡ true → preparedSince s c ≡ s → Next c (Prepared s)
-    still : (v : ℕ) → c ≡ Prepared v → s - v ≤ prepareFor → Next c (Prepared v)
+    prepares : {q : ℕ} → sightOf s ls b ≡ Prepare q → held c ≡ true → preparedSince s c ≡ s → Next c (Prepared s)
+    still : {q : ℕ} (v : ℕ) → sightOf s ls b ≡ Prepare q → c ≡ Prepared v → s - v ≤ prepareFor → Next c (Prepared v)
     -- it has been for too long
     at-last : (q v : ℕ) → c ≡ Prepared v → prepareFor < s - v → matches s b (labelAt q) ≡ true → Next c (recordingAt ls q)
     -- a label with PRF 0 starts or moves it
@@ -43,7 +43,7 @@ module _ (s : ℕ) (ls : List Stamped) (b : Booking) where
 
   next-not-live : (c : Copy) → held c ≡ true → preparedSince s c ≡ s → (g : Sight) → sightOf s ls b ≡ g → Next c (notLive s ls g)
   next-not-live c h k (Start q) e = let m = start-matches s ls b q e in starts q h (m .0) (m .1)
-  next-not-live c h k (Prepare q) e = prepares h k
+  next-not-live c h k (Prepare q) e = prepares e h k
   next-not-live c h k Nothing e = waits h
 
   next-prepared : (v : ℕ) (g : Sight) → sightOf s ls b ≡ g → Next (Prepared v) (fromPrepared s ls v g)
@@ -52,7 +52,7 @@ module _ (s : ℕ) (ls : List Stamped) (b : Booking) where
     where
       go : (t : Bool) → ltb prepareFor (s - v) ≡ t → Next (Prepared v) (cond t (recordingAt ls q) (Prepared v))
       go true d = at-last q v refl (ltb-true prepareFor (s - v) d) (prepare-matches s ls b q e)
-      go false d = still v refl (ltb-false prepareFor (s - v) d)
+      go false d = still v e refl (ltb-false prepareFor (s - v) d)
   next-prepared v Nothing e = waits refl
 
   next-moves : (c : Copy) → held c ≡ true → (g : Sight) → sightOf s ls b ≡ g → (n : Copy) → Next c n → Next c (movesOr ls g n)
@@ -97,8 +97,8 @@ module _ (s : ℕ) (ls : List Stamped) (b : Booking) where
   unfolding recordingAt
   next-held (free e) = rw e
   next-held (waits h) = sym h
-  next-held (prepares h k) = sym h
-  next-held (still v e k) = rw e
+  next-held (prepares g h k) = sym h
+  next-held (still v g e k) = rw e
   next-held (at-last q v e k m) = rw e
   next-held (starts q h m f) = sym h
   next-held (stays q mi e m) = rw e
@@ -109,8 +109,8 @@ module _ (s : ℕ) (ls : List Stamped) (b : Booking) where
   pub next-live : {c n : Copy} → Next c n → (endedAt s b ≡ false → isLive c ≡ true → openAt s b ≡ true) → isLive n ≡ true → openAt s b ≡ true
   next-live (free e) h l = absurd (true≢false (sym l))
   next-live (waits k) h l = absurd (true≢false (sym l))
-  next-live (prepares k i) h l = absurd (true≢false (sym l))
-  next-live (still v e k) h l = absurd (true≢false (sym l))
+  next-live (prepares g k i) h l = absurd (true≢false (sym l))
+  next-live (still v g e k) h l = absurd (true≢false (sym l))
   next-live (at-last q v e k m) h l = matches-open b s (labelAt q) m
   next-live (starts q k m f) h l = matches-open b s (labelAt q) m
   next-live (stays q mi e m) h l = matches-open b s (labelAt q) m
@@ -122,8 +122,8 @@ module _ (s : ℕ) (ls : List Stamped) (b : Booking) where
   unfolding recordingAt
   next-since (free e) h = tt
   next-since (waits k) h = tt
-  next-since (prepares k i) h = omega arith
-  next-since (still v e k) h = rw e at h
+  next-since (prepares g k i) h = omega arith
+  next-since (still v g e k) h = rw e at h
   next-since (at-last q v e k m) h = tt
   next-since (starts q k m f) h = tt
   next-since (stays q mi e m) h = tt
@@ -135,26 +135,26 @@ module _ (s : ℕ) (ls : List Stamped) (b : Booking) where
   unfolding recordingAt
   next-within (free e) = tt
   next-within (waits k) = tt
-  next-within (prepares k i) = omega arith
-  next-within (still v e k) = omega arith
+  next-within (prepares g k i) = omega arith
+  next-within (still v g e k) = omega arith
   next-within (at-last q v e k m) = tt
   next-within (starts q k m f) = tt
   next-within (stays q mi e m) = tt
   next-within (leaves p mi e o) = tt
   next-within (runs p v e o r) = tt
 
-  -- a prepared copy keeps its second
-  pub next-prepared-since : {c n : Copy} → Next c n → (v : ℕ) → n ≡ Prepared v → v ≡ preparedSince s c
+  -- a prepared copy keeps its second, and sees what prepares it
+  pub next-prepared-since : {c n : Copy} → Next c n → (v : ℕ) → n ≡ Prepared v → (v ≡ preparedSince s c) × ((q : ℕ) × (sightOf s ls b ≡ Prepare q))
   unfolding recordingAt
-  next-prepared-since (free e) v k = cc
-  next-prepared-since (waits h) v k = cc
-  next-prepared-since (prepares h i) v k = let z : s ≡ v = cc in sym z ∙ sym i
-  next-prepared-since (still u e l) v k = let z : u ≡ v = cc in rw e (sym z)
-  next-prepared-since (at-last q u e l m) v k = cc
-  next-prepared-since (starts q h m f) v k = cc
-  next-prepared-since (stays q mi e m) v k = cc
-  next-prepared-since (leaves p mi e o) v k = cc
-  next-prepared-since (runs p u e o r) v k = cc
+  next-prepared-since (free e) v k = (cc, (0, cc))
+  next-prepared-since (waits h) v k = (cc, (0, cc))
+  next-prepared-since (prepares g h i) v k = let z : s ≡ v = cc in (sym z ∙ sym i, (_, g))
+  next-prepared-since (still u g e l) v k = let z : u ≡ v = cc in (rw e (sym z), (_, g))
+  next-prepared-since (at-last q u e l m) v k = (cc, (0, cc))
+  next-prepared-since (starts q h m f) v k = (cc, (0, cc))
+  next-prepared-since (stays q mi e m) v k = (cc, (0, cc))
+  next-prepared-since (leaves p mi e o) v k = (cc, (0, cc))
+  next-prepared-since (runs p u e o r) v k = (cc, (0, cc))
 
 pub since-later : (s s′ : ℕ) → s ≤ s′ → (c : Copy) → SinceBy s c → SinceBy s′ c
 since-later s s′ k Free h = tt

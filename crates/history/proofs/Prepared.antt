@@ -29,7 +29,7 @@ use Rattle.history.proofs.Lists.{getD-set}
 use Rattle.history.proofs.Windows.{open-not-ended, matches-open}
 use Rattle.history.proofs.Waits.{passTo-clock}
 use Rattle.history.proofs.Next.{next-is, next-prepared-since}
-use Rattle.history.proofs.Sees.{sees-prepare}
+use Rattle.history.proofs.Sees.{sees-prepare, prepare-only}
 use Rattle.history.proofs.Steps.{Step, same, hears, waits, passes, adds, cancels, step}
 use Rattle.history.proofs.Keeps.{keeps, copy-moment}
 
@@ -128,19 +128,17 @@ module _ (slot : ℕ) (b : Booking) where
       (t, records-from q es e _ (record { timer = t; lasts = lasts; held-now = refl }) (c .1))
 
   module _ (v : ℕ) where
-    prepared-then : (es : List Desk) (d : Desk) → Has (Prepared v) d → d .clock ≤ v + 60 → Chain slot d es →
-        Each (λ e. e .clock ≤ v + 61 → OnlyPrf1 (e .clock) (e .places) b) es → PreparedThenRecords slot b v es
+    prepared-then : (es : List Desk) (d : Desk) → Has (Prepared v) d → d .clock ≤ v + 60 → Chain slot d es → PreparedThenRecords slot b v es
     unfolding recordingAt
-    prepared-then [] d h k c o = tt
-    prepared-then (e ∷ es) d h k c o =
+    prepared-then [] d h k c = tt
+    prepared-then (e ∷ es) d h k c = λ only.
         let s = e .clock in
-        let only = o .0 (omega (arith, c .0 .next)) in
         let seen = sees-prepare s (e .places) b only in
         let next : nextCopy s (e .places) b (Prepared v) ≡ fromPrepared s (e .places) v (Prepare (seen .0)) =
         next-prepared s (e .places) b v ∙ ap (fromPrepared s (e .places) v) (seen .1) in
         let lasts = open-not-ended b s (matches-open b s _ (only .matching)) in (
           λ l. let t = goes-to d e h (c .0) (rw (le-ltb prepareFor (s - v) (omega arith)) at next) in
-              (t, prepared-then es e (record { timer = t; lasts = lasts; held-now = refl }) l (c .1) (o .1)),
+              (t, prepared-then es e (record { timer = t; lasts = lasts; held-now = refl }) l (c .1)),
           λ l. let t = goes-to d e h (c .0) (rw (lt-ltb prepareFor (s - v) (omega arith)) at next) in
               (omega (arith, c .0 .next), (seen .0, seen .2, λ m. (t, records-from (seen .0) es e _ (record { timer = t; lasts = lasts; held-now = refl }) (c .1)))),
         )
@@ -157,18 +155,20 @@ prepared-lasts d h slot v e =
     cc)
     (λ k. k)
 
-pub flag : (d : Desk) → Sound d → (slot v : ℕ) (later : List Call) → let b = timerAt d slot .booking in
-    timerAt d slot .copy ≡ Prepared v → Each (λ c. c ≡ cancel slot → ⊥) later →
-    Each (λ e. e .clock ≤ v + 61 → OnlyPrf1 (e .clock) (e .places) b) (momentsIn later d) → PreparedThenRecords slot b v (momentsIn later d)
+pub flag : (d : Desk) → Sound d → (slot v : ℕ) (later : List Call) → timerAt d slot .copy ≡ Prepared v →
+    Each (λ c. c ≡ cancel slot → ⊥) later → PreparedThenRecords slot (timerAt d slot .booking) v (momentsIn later d)
 flag d h slot v later e n =
     let b = timerAt d slot .booking in
     prepared-then slot b v (momentsIn later d) d
     (record { timer = ap (λ c. record { booking = b; copy = c }) e; lasts = prepared-lasts d (h .settled) slot v e; held-now = refl })
     (rw e at (h .prepared slot)) (chain-calls slot later d h n)
 
--- ── a break ────────────────────────────────────────────────────────────────────────────────────────────────────────
+-- ── what prepares, and a break ────────────────────────────────────────────────────────────────────────────────────
 pub since : (s v : ℕ) (ls : List Stamped) (b : Booking) (c : Copy) → nextCopy s ls b c ≡ Prepared v → v ≡ preparedSince s c
-since s v ls b c e = next-prepared-since s ls b (next-is s ls b c) v e
+since s v ls b c e = next-prepared-since s ls b (next-is s ls b c) v e .0
+
+pub prepares : (s v : ℕ) (ls : List Stamped) (b : Booking) (c : Copy) → nextCopy s ls b c ≡ Prepared v → OnlyPrf1 s ls b
+prepares s v ls b c e = let g = next-prepared-since s ls b (next-is s ls b c) v e .1 in prepare-only s ls b (g .0) (g .1)
 
 module _ (u slot : ℕ) where
   -- this slot's copy is not prepared since before u
@@ -190,7 +190,7 @@ module _ (u slot : ℕ) where
   unfolding moment
   anew-moment d h = record {
     clock = h .clock;
-    anew = λ v e. rw (next-prepared-since _ _ _ (copy-moment d slot) v e) (since-anew (d .clock) (h .clock) (timerAt d slot .copy) (h .anew));
+    anew = λ v e. rw (next-prepared-since _ _ _ (copy-moment d slot) v e .0) (since-anew (d .clock) (h .clock) (timerAt d slot .copy) (h .anew));
   }
 
   anew-second : (d : Desk) → NotBefore d → NotBefore (nextSecond d)

@@ -10,7 +10,7 @@ use Rattle.history.proofs.Short.{walked-short}
 use Rattle.history.proofs.Keeps.{sound-walk, sound-reached, clock-within}
 use Rattle.history.proofs.OneCopy.{one-copy, no-two}
 use Rattle.history.proofs.Stays.{stays, starts}
-use Rattle.history.proofs.Prepared.{flag, since, break}
+use Rattle.history.proofs.Prepared.{flag, since, prepares, break}
 
 pub laws : Laws
 unfolding walkedTo
@@ -30,5 +30,6 @@ laws =
       starts = starts;
       flag = λ cs. flag (reached cs) (sound-reached cs);
       since = since;
+      prepares = prepares;
       break = break;
     }

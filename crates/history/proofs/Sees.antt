@@ -5,6 +5,7 @@ use mathlib.Core.Bool.{Bool, true, false, cond, not, _&&_, true≢false}
 use mathlib.Core.List.{List, [], _∷_}
 use native.Mathlib.Omega.{arith}
 use lib.ListN.{getD}
+use Rattle.answer.proofs.Cases.{by-test}
 use Rattle.rule.specs.Rule.{noLabel, stands, matches, Found, nowhere, at, lowestFrom, lowest, sightBy, sightOf}
 use Rattle.rule.specs.declared.Stamped.{Stamped}
 use Rattle.rule.specs.declared.Booking.{Booking}
@@ -79,3 +80,20 @@ module _ (s : ℕ) (ls : List Stamped) (b : Booking) where
         },
       )
       go Nothing e = absurd (true≢false (sym (h .matching) ∙ nothing-matches e (h .place)))
+
+  prf-1 : (l : Stamped) → (matches s b l && not (l .prf)) ≡ false → matches s b l ≡ true → l .prf ≡ true
+  prf-1 l n m = by-test (l .prf) (λ e. e) (λ e. absurd (true≢false (rw (m, e) at n)))
+
+  pub prepare-only : (q : ℕ) → sightOf s ls b ≡ Prepare q → OnlyPrf1 s ls b
+  unfolding sightOf matches stands
+  prepare-only q e = record { place = q; matching = prepare-matches s ls b q e; only = λ r. prf-1 (getD ls r noLabel) (none r) }
+    where
+      start : Stamped → Bool
+      start l = matches s b l && not (l .prf)
+
+      go : (f g : Found) → sightBy f g ≡ Prepare q → f ≡ nowhere
+      go (at r) g h = cc
+      go nowhere g h = refl
+
+      none : None start noLabel ls
+      none = nowhere-none start noLabel refl 0 ls (go (lowest start ls) (lowest (matches s b) ls) e)

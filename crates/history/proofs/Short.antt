@@ -38,8 +38,8 @@ module _ (s : ℕ) (ls : List Stamped) (b : Booking) (none : NoneStands s ls) wh
       ((p v : ℕ) → c ≡ RunningOn p v → v ≤ u) → Spent u n
   next-spent u (free e) x y = tt
   next-spent u (waits k) x y = tt
-  next-spent u (prepares k i) x y = tt
-  next-spent u (still v e k) x y = tt
+  next-spent u (prepares g k i) x y = tt
+  next-spent u (still v g e k) x y = tt
   next-spent u (at-last q v e k m) x y = none-here q m
   next-spent u (starts q k m f) x y = none-here q m
   next-spent u (stays q mi e m) x y = none-here q m
@@ -49,8 +49,8 @@ module _ (s : ℕ) (ls : List Stamped) (b : Booking) (none : NoneStands s ls) wh
   spent-dead : (u : ℕ) → u + runFor ≤ s → {c n : Copy} → Next s ls b c n → Spent u c → isLive n ≡ false
   spent-dead u l (free e) h = refl
   spent-dead u l (waits k) h = refl
-  spent-dead u l (prepares k i) h = refl
-  spent-dead u l (still v e k) h = refl
+  spent-dead u l (prepares g k i) h = refl
+  spent-dead u l (still v g e k) h = refl
   spent-dead u l (at-last q v e k m) h = none-here q m
   spent-dead u l (starts q k m f) h = none-here q m
   spent-dead u l (stays q mi e m) h = none-here q m

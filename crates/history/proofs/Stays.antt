@@ -39,8 +39,8 @@ module _ (s q : ℕ) (ls : List Stamped) (b : Booking) (c : Copy) (mi : Bool) wh
   unfolding recordingAt
   next-starts (next.free e) k = (cc, inl (cc))
   next-starts (next.waits h) k = (cc, inl (cc))
-  next-starts (next.prepares h i) k = (cc, inl (cc))
-  next-starts (next.still v e l) k = (cc, inl (cc))
+  next-starts (next.prepares g h i) k = (cc, inl (cc))
+  next-starts (next.still v g e l) k = (cc, inl (cc))
   next-starts (next.at-last r v e l m) k = let z : r ≡ q = cc in (rw (← z) m, inr (inr (rw e (lt-ltb prepareFor (s - v) l))))
   next-starts (next.starts r h m f) k = let z : r ≡ q = cc in rw (← z) (m, inl f)
   next-starts (next.stays r i e m) k = let z : r ≡ q = cc in (rw (← z) m, inr (inl (rw e (eq-eqb r q z))))

@@ -135,12 +135,13 @@ pub record Laws : Type 0 where
   -- only a label with PRF 0 starts or moves a copy, or more than 60 seconds of being prepared start it
   pub starts : (s q : ℕ) (ls : List Stamped) (b : Booking) (c : Copy) (mi : Bool) → nextCopy s ls b c ≡ Recording q mi →
       (matches s b (getD ls q noLabel) ≡ true) × ((getD ls q noLabel .prf ≡ false) ⊎ (recordsAt q c ≡ true) ⊎ (longPrepared s c ≡ true))
-  -- 'a timer that has been prepared without a break for more than 60 seconds starts recording at the lowest place that matches': where at every
-  -- moment up to v+61 some place matches and none with PRF 0, whatever else is heard, and the timer is not cancelled
-  pub flag : (cs : List Call) (slot v : ℕ) (later : List Call) →
-      let d = reached cs in let b = timerAt d slot .booking in
+  -- 'a timer that has been prepared without a break for more than 60 seconds starts recording at the lowest place that matches', whatever else
+  -- is heard, while the timer is not cancelled
+  pub flag : (cs : List Call) (slot v : ℕ) (later : List Call) → let d = reached cs in
       timerAt d slot .copy ≡ Prepared v → Each (λ c. c ≡ cancel slot → ⊥) later →
-      Each (λ e. e .clock ≤ v + 61 → OnlyPrf1 (e .clock) (e .places) b) (momentsIn later d) → PreparedThenRecords slot b v (momentsIn later d)
+      PreparedThenRecords slot (timerAt d slot .booking) v (momentsIn later d)
+  -- and nothing but a match of PRF 1, with none of PRF 0, makes or keeps a copy prepared
+  pub prepares : (s v : ℕ) (ls : List Stamped) (b : Booking) (c : Copy) → nextCopy s ls b c ≡ Prepared v → OnlyPrf1 s ls b
   -- 'the copy keeps the second at which it became prepared', whichever place matches and however often the label is sent
   pub since : (s v : ℕ) (ls : List Stamped) (b : Booking) (c : Copy) → nextCopy s ls b c ≡ Prepared v → v ≡ preparedSince s c
   -- 'without a break': where a copy is not prepared at one moment, no later moment, of the same second or another, finds it prepared since before

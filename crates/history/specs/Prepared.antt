@@ -44,11 +44,11 @@ RecordsFrom slot b q [] = Unit {0}
 RecordsFrom slot b q (e ∷ es) = matches (e .clock) b (getD (e .places) q noLabel) ≡ true →
     (timerAt e slot ≡ record { booking = b; copy = recordingAt (e .places) q }) × RecordsFrom slot b q es
 
--- a slot's timer is prepared since v at each of these moments up to v+60; the first after that is at v+61, and from it on the timer records
--- at the lowest place that matches then
+-- as long as at each of these moments some place matches and none with PRF 0: a slot's timer is prepared since v at those up to v+60; the
+-- first after that is at v+61, and from it on the timer records at the lowest place that matches then
 abbrev pub PreparedThenRecords : ℕ → Booking → ℕ → List Desk → Type 0
 PreparedThenRecords slot b v [] = Unit {0}
-PreparedThenRecords slot b v (e ∷ es) =
+PreparedThenRecords slot b v (e ∷ es) = OnlyPrf1 (e .clock) (e .places) b →
     (e .clock ≤ v + 60 → (timerAt e slot ≡ record { booking = b; copy = Prepared v }) × PreparedThenRecords slot b v es)
     × (v + 60 < e .clock → (e .clock ≡ v + 61) × ((q : ℕ) × LowestMatch (e .clock) (e .places) b q × RecordsFrom slot b q (e ∷ es)))
 

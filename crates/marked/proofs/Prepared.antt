@@ -58,16 +58,11 @@ module _ (s : ℕ) (ls : List Stamped) (b : Booking) (h : OnlyPrf1 s ls b) where
   prepares (ran-on p v k) = nextCopy-open s ls b not-ended _ ∙ rw (le-ltb (s - v) runFor (omega arith), sees-prepare s ls b h .1)
 
 -- ── up to v+60 ─────────────────────────────────────────────────────────────────────────────────────────────────────
-each-within : (slot v : ℕ) (b : Booking) (es : List Desk) → Each (λ e. (e .clock ≤ v + 60) × OnlyPrf1 (e .clock) (e .places) b) es →
-    Each (λ e. e .clock ≤ v + 61 → OnlyPrf1 (e .clock) (e .places) b) es
-each-within slot v b [] h = tt
-each-within slot v b (e ∷ es) h = (λ k. h .0 .1, each-within slot v b es (h .1))
-
 each-prepared : (slot v : ℕ) (b : Booking) (es : List Desk) → Each (λ e. (e .clock ≤ v + 60) × OnlyPrf1 (e .clock) (e .places) b) es →
     PreparedThenRecords slot b v es → Each (IsPrepared slot v) es
 each-prepared slot v b [] h k = tt
 each-prepared slot v b (e ∷ es) h k =
-    let now = k .0 (h .0 .0) in ((rw (now .0), rw (now .0)), each-prepared slot v b es (h .1) (now .1))
+    let now = k (h .0 .1) .0 (h .0 .0) in ((rw (now .0), rw (now .0)), each-prepared slot v b es (h .1) (now .1))
 
 pub prepared-to-60 : (cs : List Call) (slot v : ℕ) (later : List Call) → let d = reached cs in
     timerAt d slot .copy ≡ Prepared v → Each (λ c. c ≡ cancel slot → ⊥) later →
@@ -76,4 +71,4 @@ pub prepared-to-60 : (cs : List Call) (slot v : ℕ) (later : List Call) → let
 prepared-to-60 cs slot v later e n h =
     let d = reached cs in
     let b = timerAt d slot .booking in
-    each-prepared slot v b (momentsIn later d) h (history.laws .flag cs slot v later e n (each-within slot v b (momentsIn later d) h))
+    each-prepared slot v b (momentsIn later d) h (history.laws .flag cs slot v later e n)

@@ -1,4 +1,7 @@
 -- By cases of what is seen.
+use mathlib.Core.Path.{_≡_, refl, sym, _∙_}
+use Rattle.rule.specs.Rule.{sightOf}
+use Rattle.rule.specs.declared.Sight.the-variants as Sight
 use borrow.Author.Needs.{needs}
 use Rattle.rule.proofs.copies.from_prepared.Statement.{statement}
 use Rattle.rule.proofs.copies.from_prepared.Tie as tie
@@ -22,10 +25,19 @@ recording-at-requires : tie.Need-recording-at-requires
 recording-at-requires c κs = search needs
 
 returns : tie.Need-returns
-returns c = rw (← c .before .before .sight-of .ensures, c .enum-told .given .1)
+returns c =
+    let v = c .before .before in
+    let a = v .before .args in
+    let seen : sightOf (a .s) (a .places) (a .b) ≡ Sight.Nothing = sym (v .sight-of .ensures) ∙ c .enum-told .given .1 in
+    rw seen refl
 
 returns-2 : tie.Need-returns-2
-returns-2 c = let b = c .before .before in rw (← b .before .before .sight-of .ensures, b .now .given .1) (c .prepared-from .ensures)
+returns-2 c =
+    let n = c .before .before in
+    let v = n .before .before in
+    let a = v .before .args in
+    let seen : sightOf (a .s) (a .places) (a .b) ≡ Sight.Prepare (n .now .given .0 .0) = sym (v .sight-of .ensures) ∙ n .now .given .1 in
+    rw seen (c .prepared-from .ensures)
 
 returns-3 : tie.Need-returns-3
 returns-3 c = let b = c .before .before in rw (← b .before .before .sight-of .ensures, b .now2 .given .1) (c .recording-at .ensures)

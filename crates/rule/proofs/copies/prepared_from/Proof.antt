@@ -1,7 +1,7 @@
 -- `Ages.above` carries the test.
 use Prim.Native.Nat.{_+_}
 use mathlib.Core.Bool.{true, false}
-use mathlib.Core.Path.{_≡_}
+use mathlib.Core.Path.{_≡_, refl}
 use lib.Dec.{ltb}
 use Rattle.rule.specs.Rule.{prepareFor}
 use Rattle.rule.proofs.Ages.{above}
@@ -25,7 +25,7 @@ returns-2 : tie.Need-returns-2
 returns-2 c =
     let a = c .before .args in
     let short : ltb (a .v + prepareFor) (a .s) ≡ false = c .if1 .left in
-    rw (← above (a .s) (a .v) prepareFor, short)
+    rw (← above (a .s) (a .v) prepareFor, short) refl
 
 pub prepared-from-spec : {M : Type 1} → statement M
 prepared-from-spec = tie.close (tie.spec add-long recording-at-requires returns returns-2)
