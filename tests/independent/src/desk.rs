@@ -8,6 +8,8 @@ use crate::paper::{self, Label};
 
 const STANDS: u32 = 5;
 const RUNS_ON: u32 = 30;
+/// A timer prepared for more seconds than these starts.
+const PREPARED: u32 = 60;
 
 const RIT: u8 = 2;
 const INTERRUPTION: u8 = 3;
@@ -24,8 +26,9 @@ pub enum Pace {
     Every,
     /// Each second up to a call that is not far ahead. Up to another, those until the desk is quiet.
     Near,
-    /// Once a moment has found no label standing and nothing live, every timer waits or has ended. No later second can change
-    /// that before a call does: no label can match, and nothing is there that could leave. So the clock alone is put forward.
+    /// Once a moment has found no label standing and nothing live, every timer waits or has ended: one that was prepared has
+    /// lost its match, and its second with it. No later second can change that before a call does: no label can match, and
+    /// nothing is there that could leave or start. So the clock alone is put forward.
     Quiet,
 }
 
@@ -38,7 +41,8 @@ struct Heard {
 #[derive(Clone, Copy, PartialEq, Eq)]
 enum Copy {
     Waiting,
-    Prepared,
+    /// From the second at which it became prepared, without a break.
+    Prepared { since: u32 },
     Recording { place: usize, mi: u8 },
     RunningOn { place: usize, since: u32 },
 }
@@ -137,13 +141,27 @@ impl Desk {
     }
 
     fn not_live(&self, held: &Held) -> Copy {
-        self.start(held).unwrap_or_else(|| {
-            if !self.silent && (0..16).any(|place| self.matching(place, held).is_some()) {
-                Copy::Prepared
-            } else {
-                Copy::Waiting
-            }
-        })
+        if let Some(recording) = self.start(held) {
+            return recording;
+        }
+        let lowest = if self.silent { None } else { (0..16).find_map(|place| Some((place, self.matching(place, held)?))) };
+        match lowest {
+            Some((place, label)) => self.prepared(held, place, label),
+            None => Copy::Waiting,
+        }
+    }
+
+    /// One that was not prepared is so from the present second; one that has been for more than 60 records at the lowest match.
+    fn prepared(&self, held: &Held, lowest: usize, label: Label) -> Copy {
+        let since = match held.copy {
+            Copy::Prepared { since } => since,
+            _ => self.clock,
+        };
+        if self.clock - since > PREPARED {
+            Copy::Recording { place: lowest, mi: label.mi }
+        } else {
+            Copy::Prepared { since }
+        }
     }
 
     fn leaves(&self, held: &Held) -> Copy {
@@ -181,7 +199,7 @@ impl Desk {
                     Some(Fault::MiOfComingLabel) => self.standing(place).map_or(mi, |label| label.mi) == 1,
                     Some(Fault::RitEndsAtOnce) => mi == 1 || self.service_at(place) == Some(RIT),
                     Some(Fault::InterruptionEndsAtOnce) => mi == 1 || self.service_at(place) == Some(INTERRUPTION),
-                    Some(Fault::PreparedAtOnce) => mi == 1 || self.not_live(held) == Copy::Prepared,
+                    Some(Fault::PreparedAtOnce) => mi == 1 || matches!(self.not_live(held), Copy::Prepared { .. }),
                     _ => mi == 1,
                 };
                 if at_once {
@@ -210,7 +228,7 @@ impl Desk {
                     self.leaves(held)
                 }
             }
-            Copy::Waiting | Copy::Prepared => self.not_live(held),
+            Copy::Waiting | Copy::Prepared { .. } => self.not_live(held),
         }
     }
 
@@ -236,7 +254,7 @@ impl Desk {
                     (0..16).filter(|&p| self.matching(p, held).map_or(false, |l| l.prf == 0)).count().max(1) as u8
                 }
                 Copy::Recording { .. } | Copy::RunningOn { .. } => 1,
-                Copy::Prepared => self.has(Fault::PreparedIsLive) as u8,
+                Copy::Prepared { .. } => self.has(Fault::PreparedIsLive) as u8,
                 Copy::Waiting => 0,
             };
         }
@@ -484,7 +502,7 @@ impl Machine for Desk {
         }
         Ok(match held.copy {
             Copy::Waiting => State::Waiting,
-            Copy::Prepared => State::Prepared,
+            Copy::Prepared { .. } => State::Prepared,
             Copy::Recording { place, .. } => State::Recording(place as u8),
             Copy::RunningOn { .. } if self.has(Fault::RunOnAtLowest) => State::RunningOn(0),
             Copy::RunningOn { place, .. } => State::RunningOn(place as u8),
@@ -618,6 +636,132 @@ mod tests {
             d.wait(T + 32).unwrap();
             assert_eq!(d.ask(0), Ok(State::Prepared));
         }
+    }
+
+    /// The label with PRF 1 every five seconds at most, the last time at `to`.
+    fn keep(d: &mut Desk, from: u32, to: u32, tuner: u8, mi: u8) {
+        for second in (from..to).step_by(5).chain([to]) {
+            say(d, second, tuner, 0, PIL, mi, 1);
+        }
+    }
+
+    fn asked(d: &mut Desk, second: u32) -> State {
+        d.wait(second).unwrap();
+        d.ask(0).unwrap()
+    }
+
+    #[test]
+    fn more_than_60_seconds_prepared_start() {
+        let mut d = desk();
+        keep(&mut d, T, T + 58, 1, 0);
+        assert_eq!((asked(&mut d, T + 60), d.live()), (State::Prepared, 0));
+        assert_eq!((asked(&mut d, T + 61), d.live()), (State::Recording(4), 1));
+        assert_eq!(asked(&mut d, T + 63), State::Recording(4));
+        assert_eq!(asked(&mut d, T + 64), State::RunningOn(4));
+        assert_eq!(asked(&mut d, T + 93), State::RunningOn(4));
+        assert_eq!(asked(&mut d, T + 94), State::Waiting);
+        // a match that lapses as the minute is over starts nothing
+        let mut d = desk();
+        keep(&mut d, T, T + 55, 1, 0);
+        assert_eq!(asked(&mut d, T + 60), State::Prepared);
+        assert_eq!(asked(&mut d, T + 61), State::Waiting);
+    }
+
+    #[test]
+    fn a_start_inside_a_wait_walks_at_most_36_seconds() {
+        let mut d = desk();
+        keep(&mut d, T, T + 56, 0, 0);
+        assert_eq!(d.wait(T + 1_000), Ok(36));
+        let mut d = desk();
+        keep(&mut d, T, T + 55, 0, 0);
+        assert_eq!(d.wait(T + 1_000), Ok(6));
+    }
+
+    #[test]
+    fn a_break_of_whatever_length_counts_anew() {
+        for gap in [0, 1, 5] {
+            let mut d = desk();
+            keep(&mut d, T, T + 40, 0, 0);
+            say(&mut d, T + 40, 0, 0, code(30), 0, 1);
+            assert_eq!(d.ask(0), Ok(State::Waiting));
+            let anew = T + 40 + gap;
+            keep(&mut d, anew, anew + 60, 0, 0);
+            assert_eq!(d.ask(0), Ok(State::Prepared));
+            assert_eq!(asked(&mut d, anew + 61), State::Recording(0));
+        }
+        // the label comes at the second of its lapse, which passes first
+        let mut d = desk();
+        keep(&mut d, T, T + 40, 0, 0);
+        keep(&mut d, T + 46, T + 106, 0, 0);
+        assert_eq!(d.ask(0), Ok(State::Prepared));
+        assert_eq!(asked(&mut d, T + 107), State::Recording(0));
+    }
+
+    #[test]
+    fn another_place_is_no_break_and_the_lowest_starts() {
+        let mut d = desk();
+        keep(&mut d, T, T + 30, 2, 0);
+        say(&mut d, T + 30, 3, 0, PIL, 1, 1);
+        say(&mut d, T + 30, 2, 0, code(29), 0, 0);
+        assert_eq!(d.ask(0), Ok(State::Prepared));
+        keep(&mut d, T + 31, T + 58, 3, 1);
+        say(&mut d, T + 60, 1, 0, PIL, 0, 1);
+        assert_eq!(d.ask(0), Ok(State::Prepared));
+        assert_eq!(asked(&mut d, T + 61), State::Recording(4));
+    }
+
+    #[test]
+    fn prepared_from_the_moment_in_which_a_copy_ended() {
+        for (mi, ended) in [(1, T + 2), (0, T + 32)] {
+            let mut d = desk();
+            say(&mut d, T, 0, 0, PIL, mi, 0);
+            keep(&mut d, T + 1, T + 2, 1, 0);
+            say(&mut d, T + 2, 0, 0, code(30), 0, 0);
+            keep(&mut d, T + 3, ended + 60, 1, 0);
+            assert_eq!(d.ask(0), Ok(State::Prepared));
+            assert_eq!(asked(&mut d, ended + 61), State::Recording(4));
+        }
+    }
+
+    #[test]
+    fn what_the_minute_starts_is_an_ordinary_recording() {
+        for mi in [0, 1] {
+            let mut d = desk();
+            keep(&mut d, T, T + 60, 1, mi);
+            assert_eq!(asked(&mut d, T + 61), State::Recording(4));
+            // another match, lower too, does not take it away, whichever PRF is sent
+            say(&mut d, T + 61, 0, 0, PIL, 0, 1);
+            keep(&mut d, T + 61, T + 65, 1, mi);
+            assert_eq!(d.ask(0), Ok(State::Recording(4)));
+            say(&mut d, T + 66, 0, 0, PIL, 0, 1);
+            say(&mut d, T + 66, 1, 0, code(30), 1 - mi, 0);
+            let leaves = [State::RunningOn(4), State::Prepared][mi as usize];
+            assert_eq!(d.ask(0), Ok(leaves));
+            say(&mut d, T + 67, 0, 0, PIL, 0, 0);
+            assert_eq!(d.ask(0), Ok(State::Recording(0)));
+        }
+    }
+
+    #[test]
+    fn a_window_that_closes_starts_nothing() {
+        let close = 80_107_200;
+        for (from, state) in [(close - 61, State::Prepared), (close - 62, State::Recording(0))] {
+            let mut d = desk();
+            keep(&mut d, from, close - 1, 0, 0);
+            assert_eq!(d.ask(0), Ok(state));
+            say(&mut d, close, 0, 0, PIL, 0, 1);
+            assert_eq!((d.ask(0), d.live()), (Ok(State::Ended), 0));
+        }
+    }
+
+    #[test]
+    fn a_timer_added_again_counts_anew() {
+        let mut d = desk();
+        keep(&mut d, T, T + 50, 0, 0);
+        assert_eq!((d.cancel(0), d.add(CNI, PIL, 2)), (0, Ok(0)));
+        keep(&mut d, T + 51, T + 110, 0, 0);
+        assert_eq!(d.ask(0), Ok(State::Prepared));
+        assert_eq!(asked(&mut d, T + 111), State::Recording(0));
     }
 
     #[test]
