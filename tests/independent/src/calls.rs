@@ -2,6 +2,7 @@
 //! this shows every slot after every call.
 use crate::random::Random;
 use crate::scenes::Scene;
+use crate::stretch::Stretch;
 use std::fmt::Write;
 
 #[derive(Clone, Copy, Debug, PartialEq, Eq)]
@@ -85,7 +86,15 @@ fn in_scene(seed: u64, scene: &mut Scene) -> Vec<Call> {
     if r.once_in(2) {
         calls.push(Call::Wait(scene.now()));
     }
-    for _ in 0..scene.length(r) {
+    let length = scene.length(r);
+    let stretch = r.below(2 * length + 2);
+    for n in 0..length {
+        if n == stretch {
+            if let Some((stretch, until)) = scene.stretch(r).map(Stretch::made) {
+                calls.extend(stretch);
+                scene.pass(until);
+            }
+        }
         match r.below(16) {
             0 => {
                 let time = scene.time(r);

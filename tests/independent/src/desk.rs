@@ -1,15 +1,16 @@
 //! The desk as the paper words it: every second is walked, or those that `Pace` says, and at every moment every timer's copy is worked
 //! out anew from the labels that stand. Nothing is kept that could be worked out, but for the window of a timer and whether anything
 //! stands.
+mod minute;
+
 use crate::calendar::END;
 use crate::calls::{Machine, State};
 use crate::faults::{self, Fault};
 use crate::paper::{self, Label};
+use minute::Past;
 
 const STANDS: u32 = 5;
 const RUNS_ON: u32 = 30;
-/// A timer prepared for more seconds than these starts.
-const PREPARED: u32 = 60;
 
 const RIT: u8 = 2;
 const INTERRUPTION: u8 = 3;
@@ -55,6 +56,7 @@ struct Held {
     opens: u32,
     closes: u32,
     copy: Copy,
+    past: Past,
 }
 
 pub struct Desk {
@@ -66,8 +68,14 @@ pub struct Desk {
     pace: Pace,
     /// How many seconds were no moment.
     skipped: u64,
+    /// How many recordings began after a minute.
+    starts: u64,
     fault: Option<Fault>,
     obeyed: u32,
+    /// The present moment is a second that passes, no call.
+    walking: bool,
+    /// The timer that was cancelled last.
+    cancelled: Option<Held>,
 }
 
 impl Desk {
@@ -76,7 +84,19 @@ impl Desk {
     }
 
     pub fn with(pace: Pace, fault: Option<Fault>) -> Desk {
-        Desk { clock: 0, places: [None; 16], slots: [None; 16], silent: true, pace, skipped: 0, fault, obeyed: 0 }
+        Desk {
+            clock: 0,
+            places: [None; 16],
+            slots: [None; 16],
+            silent: true,
+            pace,
+            skipped: 0,
+            starts: 0,
+            fault,
+            obeyed: 0,
+            walking: false,
+            cancelled: None,
+        }
     }
 
     pub fn clock(&self) -> u32 {
@@ -86,6 +106,11 @@ impl Desk {
     /// How many seconds the clock was put forward by, none of which was a moment.
     pub fn skipped(&self) -> u64 {
         self.skipped
+    }
+
+    /// How many recordings began after more than a minute of being prepared.
+    pub fn starts(&self) -> u64 {
+        self.starts
     }
 
     fn has(&self, fault: Fault) -> bool {
@@ -111,8 +136,9 @@ impl Desk {
 
     /// The label at a place, if it stands and matches.
     fn matching(&self, place: usize, held: &Held) -> Option<Label> {
-        let open = held.opens <= self.clock && (self.clock < held.closes || self.has(Fault::CloseIgnored));
+        let not_closed = self.clock < held.closes || self.passes_close(held);
         self.standing(place).filter(|label| {
+            let opened = held.opens <= self.clock || self.has(Fault::PreparedBeforeOpening) && label.prf == 1;
             let cni = match self.fault {
                 Some(Fault::CniIgnored) => true,
                 Some(Fault::CountryIgnored) => label.cni & 0xFF == held.cni & 0xFF,
@@ -120,7 +146,7 @@ impl Desk {
             };
             let pil = label.pil == held.pil
                 || self.has(Fault::NspvMatchesAll) && paper::service(label.pil) == NO_SPECIFIC_VALUE;
-            cni && pil && open && !(self.has(Fault::PtyDecides) && label.pty != 0)
+            cni && pil && opened && not_closed && !(self.has(Fault::PtyDecides) && label.pty != 0)
         })
     }
 
@@ -140,28 +166,19 @@ impl Desk {
         })
     }
 
-    fn not_live(&self, held: &Held) -> Copy {
-        if let Some(recording) = self.start(held) {
-            return recording;
+    /// The lowest place that matches, whatever PRF.
+    fn lowest(&self, held: &Held) -> Option<usize> {
+        if self.silent {
+            return None;
         }
-        let lowest = if self.silent { None } else { (0..16).find_map(|place| Some((place, self.matching(place, held)?))) };
-        match lowest {
-            Some((place, label)) => self.prepared(held, place, label),
-            None => Copy::Waiting,
-        }
+        (0..16).find(|&place| self.matching(place, held).is_some())
     }
 
-    /// One that was not prepared is so from the present second; one that has been for more than 60 records at the lowest match.
-    fn prepared(&self, held: &Held, lowest: usize, label: Label) -> Copy {
-        let since = match held.copy {
-            Copy::Prepared { since } => since,
-            _ => self.clock,
-        };
-        if self.clock - since > PREPARED {
-            Copy::Recording { place: lowest, mi: label.mi }
-        } else {
-            Copy::Prepared { since }
-        }
+    fn not_live(&self, held: &Held) -> Copy {
+        self.start(held).unwrap_or_else(|| match self.lowest(held) {
+            Some(lowest) => self.prepared(held, lowest),
+            None => self.unmatched(held),
+        })
     }
 
     fn leaves(&self, held: &Held) -> Copy {
@@ -174,7 +191,7 @@ impl Desk {
 
     /// What a copy is after a moment at the present second.
     fn next(&self, held: &Held) -> Copy {
-        if self.ended(held) && !self.has(Fault::CloseIgnored) {
+        if self.ended(held) && !self.passes_close(held) {
             return match held.copy {
                 _ if !self.has(Fault::CloseRunsOn) => Copy::Waiting,
                 Copy::Recording { place, mi: 0 } => Copy::RunningOn { place, since: self.clock },
@@ -184,51 +201,61 @@ impl Desk {
         }
         match held.copy {
             Copy::Recording { place, mi } => {
-                if let Some(label) = self.matching(place, held) {
-                    if !(self.has(Fault::PrfStops) && label.prf == 1) {
-                        let stays = Copy::Recording { place, mi: if self.has(Fault::MiOfFirstLabel) { mi } else { label.mi } };
-                        return if self.has(Fault::MovesAlways) { self.start(held).unwrap_or(stays) } else { stays };
-                    }
-                }
-                if let Some(Copy::Recording { place, mi: new }) = self.start(held) {
-                    return Copy::Recording { place, mi: if self.has(Fault::MiKeptInMoving) { mi } else { new } };
-                }
-                let at_once = match self.fault {
-                    Some(Fault::NeverRunsOn) => true,
-                    Some(Fault::AlwaysRunsOn) => false,
-                    Some(Fault::MiOfComingLabel) => self.standing(place).map_or(mi, |label| label.mi) == 1,
-                    Some(Fault::RitEndsAtOnce) => mi == 1 || self.service_at(place) == Some(RIT),
-                    Some(Fault::InterruptionEndsAtOnce) => mi == 1 || self.service_at(place) == Some(INTERRUPTION),
-                    Some(Fault::PreparedAtOnce) => mi == 1 || matches!(self.not_live(held), Copy::Prepared { .. }),
-                    _ => mi == 1,
-                };
-                if at_once {
-                    return self.leaves(held);
-                }
-                let since = match self.places[place] {
-                    Some(heard) if self.has(Fault::RunsOnFromStamp) && self.standing(place).is_none() => heard.stamp,
-                    _ => self.clock,
-                };
-                Copy::RunningOn { place, since }
+                self.not_ordinary(held, place).or_else(|| self.stays(held, place, mi)).unwrap_or_else(|| self.loses(held, place, mi))
             }
-            Copy::RunningOn { since, .. } => {
-                let runs_on = match self.fault {
-                    Some(Fault::RunsOn29) => RUNS_ON - 1,
-                    Some(Fault::RunsOn31) => RUNS_ON + 1,
-                    _ => RUNS_ON,
-                };
-                if !self.has(Fault::RunOnNotRetaken) {
-                    if let Some(recording) = self.start(held) {
-                        return recording;
-                    }
-                }
-                if self.clock.saturating_sub(since) < runs_on {
-                    held.copy
-                } else {
-                    self.leaves(held)
-                }
-            }
+            Copy::RunningOn { since, .. } => self.runs_on(held, since),
             Copy::Waiting | Copy::Prepared { .. } => self.not_live(held),
+        }
+    }
+
+    /// Recording at a place whose label still matches.
+    fn stays(&self, held: &Held, place: usize, mi: u8) -> Option<Copy> {
+        let label = self.matching(place, held).filter(|label| !(self.has(Fault::PrfStops) && label.prf == 1))?;
+        let stays = Copy::Recording { place, mi: if self.has(Fault::MiOfFirstLabel) { mi } else { label.mi } };
+        Some(if self.has(Fault::MovesAlways) { self.start(held).unwrap_or(stays) } else { stays })
+    }
+
+    /// Recording at a place whose label matches no longer.
+    fn loses(&self, held: &Held, place: usize, mi: u8) -> Copy {
+        if let Some(Copy::Recording { place, mi: new }) = self.start(held) {
+            return Copy::Recording { place, mi: if self.has(Fault::MiKeptInMoving) { mi } else { new } };
+        }
+        let at_once = match self.fault {
+            Some(Fault::NeverRunsOn) => true,
+            Some(Fault::AlwaysRunsOn) => false,
+            Some(Fault::StartedNeverRunsOn) => mi == 1 || held.past.started,
+            Some(Fault::StartedAlwaysRunsOn) => mi == 1 && !held.past.started,
+            Some(Fault::MiOfComingLabel) => self.standing(place).map_or(mi, |label| label.mi) == 1,
+            Some(Fault::RitEndsAtOnce) => mi == 1 || self.service_at(place) == Some(RIT),
+            Some(Fault::InterruptionEndsAtOnce) => mi == 1 || self.service_at(place) == Some(INTERRUPTION),
+            Some(Fault::PreparedAtOnce) => mi == 1 || matches!(self.not_live(held), Copy::Prepared { .. }),
+            _ => mi == 1,
+        };
+        if at_once {
+            return self.leaves(held);
+        }
+        let since = match self.places[place] {
+            Some(heard) if self.has(Fault::RunsOnFromStamp) && self.standing(place).is_none() => heard.stamp,
+            _ => self.clock,
+        };
+        Copy::RunningOn { place, since }
+    }
+
+    fn runs_on(&self, held: &Held, since: u32) -> Copy {
+        let runs_on = match self.fault {
+            Some(Fault::RunsOn29) => RUNS_ON - 1,
+            Some(Fault::RunsOn31) => RUNS_ON + 1,
+            _ => RUNS_ON,
+        };
+        if !self.has(Fault::RunOnNotRetaken) {
+            if let Some(recording) = self.start(held) {
+                return recording;
+            }
+        }
+        if self.clock.saturating_sub(since) < runs_on {
+            held.copy
+        } else {
+            self.leaves(held)
         }
     }
 
@@ -241,7 +268,13 @@ impl Desk {
         for slot in 0..16 {
             if let Some(held) = &self.slots[slot] {
                 let copy = self.next(held);
-                self.slots[slot].as_mut().unwrap().copy = copy;
+                if (copy, held.copy) == (Copy::Waiting, Copy::Waiting) {
+                    continue;
+                }
+                let past = self.past(held, copy);
+                self.starts += (past.started && !held.past.started) as u64;
+                let held = self.slots[slot].as_mut().unwrap();
+                (held.copy, held.past) = (copy, past);
             }
         }
     }
@@ -253,6 +286,7 @@ impl Desk {
                 Copy::Recording { .. } if self.has(Fault::SecondCopy) => {
                     (0..16).filter(|&p| self.matching(p, held).map_or(false, |l| l.prf == 0)).count().max(1) as u8
                 }
+                Copy::Recording { .. } if held.past.started => !self.has(Fault::StartedIsNotLive) as u8,
                 Copy::Recording { .. } | Copy::RunningOn { .. } => 1,
                 Copy::Prepared { .. } => self.has(Fault::PreparedIsLive) as u8,
                 Copy::Waiting => 0,
@@ -289,7 +323,9 @@ impl Desk {
         for second in 0..=whole {
             if second > 0 {
                 self.clock += 1;
+                self.walking = true;
                 self.moment();
+                self.walking = false;
             }
             if walked.is_none() && self.quiet() {
                 walked = Some(second);
@@ -434,6 +470,7 @@ impl Machine for Desk {
         } else {
             self.pass(time);
         }
+        self.break_by_packet(place, &label);
         self.hear(place, label);
         if !(self.has(Fault::OneMomentASecond) && again) {
             self.moment();
@@ -469,7 +506,10 @@ impl Machine for Desk {
             return Err(13);
         }
         let slot = room.ok_or(14)?;
-        self.slots[slot] = Some(Held { cni, pil, year, opens, closes, copy: Copy::Waiting });
+        let kept = self.cancelled.filter(|held| self.has(Fault::CancelKeepsSecond) && self.same(held, cni, pil, year));
+        let copy = kept.map_or(Copy::Waiting, |held| held.copy);
+        self.break_by_call();
+        self.slots[slot] = Some(Held { cni, pil, year, opens, closes, copy, past: Past::default() });
         if !self.has(Fault::AddIsNoMoment) {
             self.moment();
         }
@@ -481,6 +521,8 @@ impl Machine for Desk {
             Err(refusal) => refusal,
             Ok(held) if self.has(Fault::CancelRefusesEnded) && self.ended(&held) => 15,
             Ok(held) => {
+                self.cancelled = Some(held);
+                self.break_by_call();
                 self.slots[slot as usize] = match self.fault {
                     Some(Fault::CancelOnlyEnds) => Some(Held { opens: 0, closes: 0, copy: Copy::Waiting, ..held }),
                     _ => None,
@@ -503,6 +545,7 @@ impl Machine for Desk {
         Ok(match held.copy {
             Copy::Waiting => State::Waiting,
             Copy::Prepared { .. } => State::Prepared,
+            Copy::Recording { .. } if self.has(Fault::StartedSaysPrepared) && held.past.started => State::Prepared,
             Copy::Recording { place, .. } => State::Recording(place as u8),
             Copy::RunningOn { .. } if self.has(Fault::RunOnAtLowest) => State::RunningOn(0),
             Copy::RunningOn { place, .. } => State::RunningOn(place as u8),
