@@ -1,5 +1,6 @@
 //! A desk as something that answers calls, and calls in a row with all that they show. A sheet shows no more than what is live;
 //! this shows every slot after every call.
+use crate::desk::Desk;
 use crate::random::Random;
 use crate::scenes::Scene;
 use crate::stretch::Stretch;
@@ -72,6 +73,22 @@ pub fn calls(seed: u64) -> Vec<Call> {
 /// Near the clock's start, so that every second can be walked.
 pub fn early_calls(seed: u64) -> Vec<Call> {
     in_scene(seed, &mut Scene::early(&mut Random::new(seed ^ 0xCA11)))
+}
+
+/// The same calls with a wait to each second on the way, but where the next is further ahead than anything lasts.
+pub fn second_by_second(calls: &[Call]) -> Vec<Call> {
+    const LONGEST: u32 = 100;
+    let (mut desk, mut made) = (Desk::new(), Vec::new());
+    for call in calls {
+        let from = desk.clock();
+        play(&mut desk, std::slice::from_ref(call));
+        let to = desk.clock();
+        if to - from <= LONGEST {
+            made.extend((from + 1..=to).map(Call::Wait));
+        }
+        made.push(call.clone());
+    }
+    made
 }
 
 fn in_scene(seed: u64, scene: &mut Scene) -> Vec<Call> {

@@ -45,6 +45,20 @@ fn skipping_far_from_the_clocks_start_changes_nothing() {
     assert!(starts > 100, "{starts}");
 }
 
+/// A wait cut into its seconds leads to the same desk.
+#[test]
+fn going_second_by_second_changes_nothing() {
+    for seed in 0..1_000 {
+        let calls = calls::calls(seed);
+        let told = |calls: &[Call]| {
+            let mut desk = Desk::new();
+            calls::play(&mut desk, calls);
+            (desk.clock(), desk.live(), (0..16).map(|slot| desk.ask(slot)).collect::<Vec<_>>(), desk.starts())
+        };
+        assert_eq!(told(&calls), told(&calls::second_by_second(&calls)), "row {seed}");
+    }
+}
+
 #[test]
 fn what_each_pace_skips() {
     let whole = FAR as u64;
