@@ -201,7 +201,8 @@ impl Desk {
         }
         match held.copy {
             Copy::Recording { place, mi } => {
-                self.not_ordinary(held, place).or_else(|| self.stays(held, place, mi)).unwrap_or_else(|| self.loses(held, place, mi))
+                let stays = self.not_ordinary(held, place).or_else(|| self.stays(held, place, mi));
+                stays.unwrap_or_else(|| self.loses(held, place, mi))
             }
             Copy::RunningOn { since, .. } => self.runs_on(held, since),
             Copy::Waiting | Copy::Prepared { .. } => self.not_live(held),
@@ -286,7 +287,7 @@ impl Desk {
                 Copy::Recording { .. } if self.has(Fault::SecondCopy) => {
                     (0..16).filter(|&p| self.matching(p, held).map_or(false, |l| l.prf == 0)).count().max(1) as u8
                 }
-                Copy::Recording { .. } if held.past.started => !self.has(Fault::StartedIsNotLive) as u8,
+                Copy::Recording { .. } if self.has(Fault::StartedIsNotLive) && held.past.started => 0,
                 Copy::Recording { .. } | Copy::RunningOn { .. } => 1,
                 Copy::Prepared { .. } => self.has(Fault::PreparedIsLive) as u8,
                 Copy::Waiting => 0,

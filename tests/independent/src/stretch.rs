@@ -1,6 +1,6 @@
-//! Stretches in which a network leaves PRF at 1 for a minute and more: labels that keep a timer prepared, what breaks that or does
-//! not, and calls at the seconds where the minute is over. Who makes one counts as the desk should; where two places match by chance
-//! the count may be another, and then the calls only miss their seconds.
+//! Stretches in which a network leaves PRF at 1 for a minute and more: labels that keep a timer prepared, what breaks that or
+//! does not, and calls at the seconds where the minute is over. A stretch counts as the desk should. Where two places match by
+//! chance it may be wrong, and then its calls only miss their seconds.
 use crate::calls::Call;
 use crate::paper::Label;
 use crate::random::Random;

@@ -118,7 +118,7 @@ impl Desk {
         let lowest = self.lowest(held)?;
         match self.fault {
             Some(Fault::StartedStops) if label.map_or(false, |label| label.prf == 1) => Some(Copy::Prepared { since: self.clock }),
-            Some(Fault::StartedMovesLower) => Some(self.started(held, lowest)),
+            Some(Fault::StartedMovesLower) if label.is_some() => Some(self.started(held, lowest)),
             Some(Fault::StartedMovesToPrf1) if label.is_none() => self.start(held).or(Some(self.started(held, lowest))),
             _ => None,
         }
@@ -178,8 +178,9 @@ impl Desk {
             Copy::RunningOn { .. } => past,
             Copy::Waiting => {
                 let left = matches!(held.copy, Copy::Prepared { .. });
-                let kept = self.places[past.lowest].map_or(false, |heard| (heard.label.cni, heard.label.pil) == (held.cni, held.pil));
-                Past { started: false, lapsed: if left { kept } else { past.lapsed }, ..past }
+                let kept = |label: Label| (label.cni, label.pil) == (held.cni, held.pil);
+                let lapsed = self.places[past.lowest].map_or(false, |heard| kept(heard.label));
+                Past { started: false, lapsed: if left { lapsed } else { past.lapsed }, ..past }
             }
         }
     }
