@@ -330,7 +330,7 @@ impl Scene {
         let (opens, closes) = self.programmes[0].window;
         let from = match r.below(6) {
             0 => self.now + r.below(3) as u32,
-            1 => self.now.max(closes - 20 - r.below(60) as u32),
+            1 if !self.steady => self.now.max(closes - 20 - r.below(60) as u32),
             _ => self.now.saturating_add(36 + r.below(9) as u32),
         };
         if opens > from.saturating_add(60) || from >= closes {
