@@ -13,6 +13,8 @@ pub struct Stretch<'a> {
     /// Where the timer's label is sent, and with which MI.
     place: (u8, u8),
     mi: u8,
+    /// Continuation is sent in its stead, once it stands.
+    continued: bool,
     now: u32,
     /// The second at which the timer became prepared.
     since: u32,
@@ -25,8 +27,8 @@ pub struct Stretch<'a> {
 
 impl<'a> Stretch<'a> {
     pub fn new(r: &'a mut Random, timer: Timer, places: &'a [(u8, u8)], (now, since): (u32, u32)) -> Stretch<'a> {
-        let (place, mi) = (one(r, places), r.below(2) as u8);
-        Stretch { r, timer, places, place, mi, now, since, beside: None, packets_only: false, calls: Vec::new() }
+        let (place, mi, continued) = (one(r, places), r.below(2) as u8, r.once_in(8));
+        Stretch { r, timer, places, place, mi, continued, now, since, beside: None, packets_only: false, calls: Vec::new() }
     }
 
     pub fn beside(self, timer: Timer) -> Stretch<'a> {
@@ -102,7 +104,7 @@ impl<'a> Stretch<'a> {
             let step = one(self.r, &[1, 3, 4, 5, 5, 5]);
             self.now = until.min(self.now + step);
             match self.r.below(24) {
-                0 => self.say(self.place, code(28), 1 - self.mi, 0),
+                n if n == 0 || self.continued => self.say(self.place, code(28), 1 - self.mi, 0),
                 1 => {
                     self.mi = 1 - self.mi;
                     self.own(1);
