@@ -5,6 +5,7 @@ use crate::packet::{self, Label};
 
 const STANDS: u32 = 5;
 const RUNS_ON: u32 = 30;
+const PREPARED: u32 = 60;
 const CONTINUATION: u32 = 15 << 11 | 28 << 6 | 63;
 const NEVER: u32 = u32::MAX;
 
@@ -20,6 +21,7 @@ pub enum State {
 #[derive(Clone, Copy, PartialEq, Eq)]
 enum Copy {
     Idle,
+    Prepared { since: u32 },
     Recording { place: u8, mi: bool },
     RunningOn { place: u8, since: u32 },
 }
@@ -49,12 +51,23 @@ impl Timer {
         }
     }
 
-    fn open(&self, clock: u32) -> bool {
-        self.window.opens <= clock && clock < self.window.closes
+    /// The copy after a moment in the open window.
+    fn next(&self, now: u32, places: &[Place; 16]) -> Copy {
+        let record = |place: u32| Copy::Recording { place: place as u8, mi: places[place as usize].label.mi };
+        match self.copy {
+            Copy::Recording { place, .. } if self.equal >> place & 1 == 1 => record(place as u32),
+            _ if self.begun != 0 => record(self.begun.trailing_zeros()),
+            Copy::Recording { place, mi: false } => Copy::RunningOn { place, since: now },
+            Copy::RunningOn { since, .. } if now - since < RUNS_ON => self.copy,
+            _ if self.equal == 0 => Copy::Idle,
+            Copy::Prepared { since } if now - since > PREPARED => record(self.equal.trailing_zeros()),
+            Copy::Prepared { .. } => self.copy,
+            _ => Copy::Prepared { since: now },
+        }
     }
 
     fn live(&self) -> bool {
-        self.copy != Copy::Idle
+        matches!(self.copy, Copy::Recording { .. } | Copy::RunningOn { .. })
     }
 }
 
@@ -173,7 +186,7 @@ impl Desk {
             _ if self.clock >= timer.window.closes => State::Ended,
             Copy::Recording { place, .. } => State::Recording(place),
             Copy::RunningOn { place, .. } => State::RunningOn(place),
-            Copy::Idle if timer.equal != 0 && timer.open(self.clock) => State::Prepared,
+            Copy::Prepared { .. } => State::Prepared,
             Copy::Idle => State::Waiting,
         })
     }
@@ -236,26 +249,15 @@ impl Desk {
                 }
                 continue;
             }
-            timer.copy = match timer.copy {
-                Copy::Recording { place, .. } if timer.equal >> place & 1 == 1 => {
-                    Copy::Recording { place, mi: self.places[place as usize].label.mi }
-                }
-                copy if timer.begun == 0 => match copy {
-                    Copy::Recording { place, mi: false } => Copy::RunningOn { place, since: now },
-                    Copy::RunningOn { since, .. } if now - since < RUNS_ON => copy,
-                    _ => Copy::Idle,
-                },
-                _ => {
-                    let place = timer.begun.trailing_zeros() as u8;
-                    Copy::Recording { place, mi: self.places[place as usize].label.mi }
-                }
-            };
+            timer.copy = timer.next(now, &self.places);
             if timer.live() {
                 live += 1;
                 next = next.min(timer.window.closes);
             }
-            if let Copy::RunningOn { since, .. } = timer.copy {
-                next = next.min(since + RUNS_ON);
+            match timer.copy {
+                Copy::RunningOn { since, .. } => next = next.min(since + RUNS_ON),
+                Copy::Prepared { since } => next = next.min(since + PREPARED + 1),
+                _ => {}
             }
         }
         self.live = live;

@@ -48,21 +48,27 @@ fn sheets_print_the_same() {
     assert!(bench::sheet::play(&largest) == sheet::play(&largest).into_bytes());
 }
 
+fn answers_are_the_same(seed: u64, calls: &[calls::Call]) {
+    let answers = calls::play(&mut Ordinary(bench::desk::Desk::new()), calls);
+    let expected = calls::play(&mut independent_desk(seed), calls);
+    let line = answers.lines().zip(expected.lines()).take_while(|(a, b)| a == b).count();
+    assert!(
+        answers == expected,
+        "row {seed}, call {line}, {:?}: {:?} in place of {:?}",
+        calls.get(line),
+        answers.lines().nth(line),
+        expected.lines().nth(line)
+    );
+}
+
 #[test]
 fn calls_answer_the_same() {
-    for seed in 0..sheets::SHEETS {
-        let calls = calls::calls(seed);
-        let answers = calls::play(&mut Ordinary(bench::desk::Desk::new()), &calls);
-        let expected = calls::play(&mut independent_desk(seed), &calls);
-        let line = answers.lines().zip(expected.lines()).take_while(|(a, b)| a == b).count();
-        assert!(
-            answers == expected,
-            "row {seed}, call {line}, {:?}: {:?} in place of {:?}",
-            calls.get(line),
-            answers.lines().nth(line),
-            expected.lines().nth(line)
-        );
-    }
+    (0..sheets::SHEETS).for_each(|seed| answers_are_the_same(seed, &calls::calls(seed)));
+}
+
+#[test]
+fn calls_answer_the_same_second_by_second() {
+    (0..sheets::SHEETS / 10).for_each(|seed| answers_are_the_same(seed, &calls::second_by_second(&calls::calls(seed))));
 }
 
 #[test]

@@ -27,21 +27,27 @@ pub struct Walked {
     pub from_start: AtomicU64,
     /// Those that walked on after a jump.
     pub after_jump: AtomicU64,
+    /// The desks that started a timer after a minute of being prepared.
+    pub started: AtomicU64,
 }
 
 impl Walked {
     pub fn add(&self, desk: &Desk) {
         let seconds = desk.clock() as u64 - desk.skipped();
         self.seconds.fetch_add(seconds, Ordering::Relaxed);
+        self.started.fetch_add((desk.starts() > 0) as u64, Ordering::Relaxed);
         if seconds > 0 {
             let desks = if desk.skipped() == 0 { &self.from_start } else { &self.after_jump };
             desks.fetch_add(1, Ordering::Relaxed);
         }
     }
 
-    /// Whether the random sheets, or rows of calls, were walked that widely.
+    /// Whether the random sheets, or rows of calls, were walked that widely, and started timers that often.
     pub fn is_wide(&self) -> bool {
         let above = |number: &AtomicU64, least| number.load(Ordering::Relaxed) > least;
-        above(&self.seconds, 150_000_000) && above(&self.from_start, SHEETS / 10) && above(&self.after_jump, SHEETS / 2)
+        above(&self.seconds, 150_000_000)
+            && above(&self.from_start, SHEETS / 10)
+            && above(&self.after_jump, SHEETS / 2)
+            && above(&self.started, SHEETS / 8)
     }
 }

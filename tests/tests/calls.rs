@@ -60,6 +60,16 @@ fn tens_of_millions_of_seconds_answer_the_same() {
     assert_eq!(made.len(), LONG);
 }
 
+/// What lapses, runs out or starts is seen at its own second.
+#[test]
+fn calls_answer_the_same_second_by_second() {
+    let made: Vec<Vec<Call>> = (0..BATCH as u64).map(|n| calls::second_by_second(&calls::calls(n))).collect();
+    let sent: Vec<_> = made.iter().map(|calls| rows::begun(calls).collect()).collect();
+    for ((n, calls), mut desk) in made.iter().enumerate().zip(rows::answered(&sent)) {
+        compare(n, calls, &calls::play(&mut desk, calls), &calls::play(&mut walk::desk(), calls));
+    }
+}
+
 /// What is live, and every slot.
 fn told<M: Machine>(desk: &M) -> (u8, Vec<Result<calls::State, u8>>) {
     (desk.live(), (0..17).map(|slot| desk.ask(slot)).collect())

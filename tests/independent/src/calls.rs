@@ -1,7 +1,9 @@
 //! A desk as something that answers calls, and calls in a row with all that they show. A sheet shows no more than what is live;
 //! this shows every slot after every call.
+use crate::desk::Desk;
 use crate::random::Random;
 use crate::scenes::Scene;
+use crate::stretch::Stretch;
 use std::fmt::Write;
 
 #[derive(Clone, Copy, Debug, PartialEq, Eq)]
@@ -73,6 +75,22 @@ pub fn early_calls(seed: u64) -> Vec<Call> {
     in_scene(seed, &mut Scene::early(&mut Random::new(seed ^ 0xCA11)))
 }
 
+/// The same calls with a wait to each second on the way, but where the next is further ahead than anything lasts.
+pub fn second_by_second(calls: &[Call]) -> Vec<Call> {
+    const LONGEST: u32 = 100;
+    let (mut desk, mut made) = (Desk::new(), Vec::new());
+    for call in calls {
+        let from = desk.clock();
+        play(&mut desk, std::slice::from_ref(call));
+        let to = desk.clock();
+        if to - from <= LONGEST {
+            made.extend((from + 1..=to).map(Call::Wait));
+        }
+        made.push(call.clone());
+    }
+    made
+}
+
 fn in_scene(seed: u64, scene: &mut Scene) -> Vec<Call> {
     let mut random = Random::new(seed ^ 0xCA11_5EED);
     let r = &mut random;
@@ -85,7 +103,15 @@ fn in_scene(seed: u64, scene: &mut Scene) -> Vec<Call> {
     if r.once_in(2) {
         calls.push(Call::Wait(scene.now()));
     }
-    for _ in 0..scene.length(r) {
+    let length = scene.length(r);
+    let stretch = r.below(2 * length + 2);
+    for n in 0..length {
+        if n == stretch {
+            if let Some((stretch, until)) = scene.stretch(r).map(Stretch::made) {
+                calls.extend(stretch);
+                scene.pass(until);
+            }
+        }
         match r.below(16) {
             0 => {
                 let time = scene.time(r);

@@ -1,10 +1,13 @@
 //! The desk as the paper words it: every second is walked, or those that `Pace` says, and at every moment every timer's copy is worked
 //! out anew from the labels that stand. Nothing is kept that could be worked out, but for the window of a timer and whether anything
 //! stands.
+mod minute;
+
 use crate::calendar::END;
 use crate::calls::{Machine, State};
 use crate::faults::{self, Fault};
 use crate::paper::{self, Label};
+use minute::Past;
 
 const STANDS: u32 = 5;
 const RUNS_ON: u32 = 30;
@@ -24,8 +27,9 @@ pub enum Pace {
     Every,
     /// Each second up to a call that is not far ahead. Up to another, those until the desk is quiet.
     Near,
-    /// Once a moment has found no label standing and nothing live, every timer waits or has ended. No later second can change
-    /// that before a call does: no label can match, and nothing is there that could leave. So the clock alone is put forward.
+    /// Once a moment has found no label standing and nothing live, every timer waits or has ended: one that was prepared has
+    /// lost its match, and its second with it. No later second can change that before a call does: no label can match, and
+    /// nothing is there that could leave or start. So the clock alone is put forward.
     Quiet,
 }
 
@@ -38,7 +42,8 @@ struct Heard {
 #[derive(Clone, Copy, PartialEq, Eq)]
 enum Copy {
     Waiting,
-    Prepared,
+    /// From the second at which it became prepared, without a break.
+    Prepared { since: u32 },
     Recording { place: usize, mi: u8 },
     RunningOn { place: usize, since: u32 },
 }
@@ -51,6 +56,7 @@ struct Held {
     opens: u32,
     closes: u32,
     copy: Copy,
+    past: Past,
 }
 
 pub struct Desk {
@@ -62,8 +68,14 @@ pub struct Desk {
     pace: Pace,
     /// How many seconds were no moment.
     skipped: u64,
+    /// How many recordings began after a minute.
+    starts: u64,
     fault: Option<Fault>,
     obeyed: u32,
+    /// The present moment is a second that passes, no call.
+    walking: bool,
+    /// The timer that was cancelled last.
+    cancelled: Option<Held>,
 }
 
 impl Desk {
@@ -72,7 +84,19 @@ impl Desk {
     }
 
     pub fn with(pace: Pace, fault: Option<Fault>) -> Desk {
-        Desk { clock: 0, places: [None; 16], slots: [None; 16], silent: true, pace, skipped: 0, fault, obeyed: 0 }
+        Desk {
+            clock: 0,
+            places: [None; 16],
+            slots: [None; 16],
+            silent: true,
+            pace,
+            skipped: 0,
+            starts: 0,
+            fault,
+            obeyed: 0,
+            walking: false,
+            cancelled: None,
+        }
     }
 
     pub fn clock(&self) -> u32 {
@@ -82,6 +106,11 @@ impl Desk {
     /// How many seconds the clock was put forward by, none of which was a moment.
     pub fn skipped(&self) -> u64 {
         self.skipped
+    }
+
+    /// How many recordings began after more than a minute of being prepared.
+    pub fn starts(&self) -> u64 {
+        self.starts
     }
 
     fn has(&self, fault: Fault) -> bool {
@@ -107,8 +136,9 @@ impl Desk {
 
     /// The label at a place, if it stands and matches.
     fn matching(&self, place: usize, held: &Held) -> Option<Label> {
-        let open = held.opens <= self.clock && (self.clock < held.closes || self.has(Fault::CloseIgnored));
+        let not_closed = self.clock < held.closes || self.passes_close(held);
         self.standing(place).filter(|label| {
+            let opened = held.opens <= self.clock || self.has(Fault::PreparedBeforeOpening) && label.prf == 1;
             let cni = match self.fault {
                 Some(Fault::CniIgnored) => true,
                 Some(Fault::CountryIgnored) => label.cni & 0xFF == held.cni & 0xFF,
@@ -116,7 +146,7 @@ impl Desk {
             };
             let pil = label.pil == held.pil
                 || self.has(Fault::NspvMatchesAll) && paper::service(label.pil) == NO_SPECIFIC_VALUE;
-            cni && pil && open && !(self.has(Fault::PtyDecides) && label.pty != 0)
+            cni && pil && opened && not_closed && !(self.has(Fault::PtyDecides) && label.pty != 0)
         })
     }
 
@@ -136,13 +166,18 @@ impl Desk {
         })
     }
 
+    /// The lowest place that matches, whatever PRF.
+    fn lowest(&self, held: &Held) -> Option<usize> {
+        if self.silent {
+            return None;
+        }
+        (0..16).find(|&place| self.matching(place, held).is_some())
+    }
+
     fn not_live(&self, held: &Held) -> Copy {
-        self.start(held).unwrap_or_else(|| {
-            if !self.silent && (0..16).any(|place| self.matching(place, held).is_some()) {
-                Copy::Prepared
-            } else {
-                Copy::Waiting
-            }
+        self.start(held).unwrap_or_else(|| match self.lowest(held) {
+            Some(lowest) => self.prepared(held, lowest),
+            None => self.unmatched(held),
         })
     }
 
@@ -156,7 +191,7 @@ impl Desk {
 
     /// What a copy is after a moment at the present second.
     fn next(&self, held: &Held) -> Copy {
-        if self.ended(held) && !self.has(Fault::CloseIgnored) {
+        if self.ended(held) && !self.passes_close(held) {
             return match held.copy {
                 _ if !self.has(Fault::CloseRunsOn) => Copy::Waiting,
                 Copy::Recording { place, mi: 0 } => Copy::RunningOn { place, since: self.clock },
@@ -166,51 +201,62 @@ impl Desk {
         }
         match held.copy {
             Copy::Recording { place, mi } => {
-                if let Some(label) = self.matching(place, held) {
-                    if !(self.has(Fault::PrfStops) && label.prf == 1) {
-                        let stays = Copy::Recording { place, mi: if self.has(Fault::MiOfFirstLabel) { mi } else { label.mi } };
-                        return if self.has(Fault::MovesAlways) { self.start(held).unwrap_or(stays) } else { stays };
-                    }
-                }
-                if let Some(Copy::Recording { place, mi: new }) = self.start(held) {
-                    return Copy::Recording { place, mi: if self.has(Fault::MiKeptInMoving) { mi } else { new } };
-                }
-                let at_once = match self.fault {
-                    Some(Fault::NeverRunsOn) => true,
-                    Some(Fault::AlwaysRunsOn) => false,
-                    Some(Fault::MiOfComingLabel) => self.standing(place).map_or(mi, |label| label.mi) == 1,
-                    Some(Fault::RitEndsAtOnce) => mi == 1 || self.service_at(place) == Some(RIT),
-                    Some(Fault::InterruptionEndsAtOnce) => mi == 1 || self.service_at(place) == Some(INTERRUPTION),
-                    Some(Fault::PreparedAtOnce) => mi == 1 || self.not_live(held) == Copy::Prepared,
-                    _ => mi == 1,
-                };
-                if at_once {
-                    return self.leaves(held);
-                }
-                let since = match self.places[place] {
-                    Some(heard) if self.has(Fault::RunsOnFromStamp) && self.standing(place).is_none() => heard.stamp,
-                    _ => self.clock,
-                };
-                Copy::RunningOn { place, since }
+                let stays = self.not_ordinary(held, place).or_else(|| self.stays(held, place, mi));
+                stays.unwrap_or_else(|| self.loses(held, place, mi))
             }
-            Copy::RunningOn { since, .. } => {
-                let runs_on = match self.fault {
-                    Some(Fault::RunsOn29) => RUNS_ON - 1,
-                    Some(Fault::RunsOn31) => RUNS_ON + 1,
-                    _ => RUNS_ON,
-                };
-                if !self.has(Fault::RunOnNotRetaken) {
-                    if let Some(recording) = self.start(held) {
-                        return recording;
-                    }
-                }
-                if self.clock.saturating_sub(since) < runs_on {
-                    held.copy
-                } else {
-                    self.leaves(held)
-                }
+            Copy::RunningOn { since, .. } => self.runs_on(held, since),
+            Copy::Waiting | Copy::Prepared { .. } => self.not_live(held),
+        }
+    }
+
+    /// Recording at a place whose label still matches.
+    fn stays(&self, held: &Held, place: usize, mi: u8) -> Option<Copy> {
+        let label = self.matching(place, held).filter(|label| !(self.has(Fault::PrfStops) && label.prf == 1))?;
+        let stays = Copy::Recording { place, mi: if self.has(Fault::MiOfFirstLabel) { mi } else { label.mi } };
+        Some(if self.has(Fault::MovesAlways) { self.start(held).unwrap_or(stays) } else { stays })
+    }
+
+    /// Recording at a place whose label matches no longer.
+    fn loses(&self, held: &Held, place: usize, mi: u8) -> Copy {
+        if let Some(Copy::Recording { place, mi: new }) = self.start(held) {
+            return Copy::Recording { place, mi: if self.has(Fault::MiKeptInMoving) { mi } else { new } };
+        }
+        let at_once = match self.fault {
+            Some(Fault::NeverRunsOn) => true,
+            Some(Fault::AlwaysRunsOn) => false,
+            Some(Fault::StartedNeverRunsOn) => mi == 1 || held.past.started,
+            Some(Fault::StartedAlwaysRunsOn) => mi == 1 && !held.past.started,
+            Some(Fault::MiOfComingLabel) => self.standing(place).map_or(mi, |label| label.mi) == 1,
+            Some(Fault::RitEndsAtOnce) => mi == 1 || self.service_at(place) == Some(RIT),
+            Some(Fault::InterruptionEndsAtOnce) => mi == 1 || self.service_at(place) == Some(INTERRUPTION),
+            Some(Fault::PreparedAtOnce) => mi == 1 || matches!(self.not_live(held), Copy::Prepared { .. }),
+            _ => mi == 1,
+        };
+        if at_once {
+            return self.leaves(held);
+        }
+        let since = match self.places[place] {
+            Some(heard) if self.has(Fault::RunsOnFromStamp) && self.standing(place).is_none() => heard.stamp,
+            _ => self.clock,
+        };
+        Copy::RunningOn { place, since }
+    }
+
+    fn runs_on(&self, held: &Held, since: u32) -> Copy {
+        let runs_on = match self.fault {
+            Some(Fault::RunsOn29) => RUNS_ON - 1,
+            Some(Fault::RunsOn31) => RUNS_ON + 1,
+            _ => RUNS_ON,
+        };
+        if !self.has(Fault::RunOnNotRetaken) {
+            if let Some(recording) = self.start(held) {
+                return recording;
             }
-            Copy::Waiting | Copy::Prepared => self.not_live(held),
+        }
+        if self.clock.saturating_sub(since) < runs_on {
+            held.copy
+        } else {
+            self.leaves(held)
         }
     }
 
@@ -223,7 +269,13 @@ impl Desk {
         for slot in 0..16 {
             if let Some(held) = &self.slots[slot] {
                 let copy = self.next(held);
-                self.slots[slot].as_mut().unwrap().copy = copy;
+                if (copy, held.copy) == (Copy::Waiting, Copy::Waiting) {
+                    continue;
+                }
+                let past = self.past(held, copy);
+                self.starts += (past.started && !held.past.started) as u64;
+                let held = self.slots[slot].as_mut().unwrap();
+                (held.copy, held.past) = (copy, past);
             }
         }
     }
@@ -235,8 +287,9 @@ impl Desk {
                 Copy::Recording { .. } if self.has(Fault::SecondCopy) => {
                     (0..16).filter(|&p| self.matching(p, held).map_or(false, |l| l.prf == 0)).count().max(1) as u8
                 }
+                Copy::Recording { .. } if self.has(Fault::StartedIsNotLive) && held.past.started => 0,
                 Copy::Recording { .. } | Copy::RunningOn { .. } => 1,
-                Copy::Prepared => self.has(Fault::PreparedIsLive) as u8,
+                Copy::Prepared { .. } => self.has(Fault::PreparedIsLive) as u8,
                 Copy::Waiting => 0,
             };
         }
@@ -271,7 +324,9 @@ impl Desk {
         for second in 0..=whole {
             if second > 0 {
                 self.clock += 1;
+                self.walking = true;
                 self.moment();
+                self.walking = false;
             }
             if walked.is_none() && self.quiet() {
                 walked = Some(second);
@@ -416,6 +471,7 @@ impl Machine for Desk {
         } else {
             self.pass(time);
         }
+        self.break_by_packet(place, &label);
         self.hear(place, label);
         if !(self.has(Fault::OneMomentASecond) && again) {
             self.moment();
@@ -451,7 +507,10 @@ impl Machine for Desk {
             return Err(13);
         }
         let slot = room.ok_or(14)?;
-        self.slots[slot] = Some(Held { cni, pil, year, opens, closes, copy: Copy::Waiting });
+        let kept = self.cancelled.filter(|held| self.has(Fault::CancelKeepsSecond) && self.same(held, cni, pil, year));
+        let copy = kept.map_or(Copy::Waiting, |held| held.copy);
+        self.break_by_call();
+        self.slots[slot] = Some(Held { cni, pil, year, opens, closes, copy, past: Past::default() });
         if !self.has(Fault::AddIsNoMoment) {
             self.moment();
         }
@@ -463,6 +522,8 @@ impl Machine for Desk {
             Err(refusal) => refusal,
             Ok(held) if self.has(Fault::CancelRefusesEnded) && self.ended(&held) => 15,
             Ok(held) => {
+                self.cancelled = Some(held);
+                self.break_by_call();
                 self.slots[slot as usize] = match self.fault {
                     Some(Fault::CancelOnlyEnds) => Some(Held { opens: 0, closes: 0, copy: Copy::Waiting, ..held }),
                     _ => None,
@@ -484,7 +545,8 @@ impl Machine for Desk {
         }
         Ok(match held.copy {
             Copy::Waiting => State::Waiting,
-            Copy::Prepared => State::Prepared,
+            Copy::Prepared { .. } => State::Prepared,
+            Copy::Recording { .. } if self.has(Fault::StartedSaysPrepared) && held.past.started => State::Prepared,
             Copy::Recording { place, .. } => State::Recording(place as u8),
             Copy::RunningOn { .. } if self.has(Fault::RunOnAtLowest) => State::RunningOn(0),
             Copy::RunningOn { place, .. } => State::RunningOn(place as u8),
@@ -618,6 +680,132 @@ mod tests {
             d.wait(T + 32).unwrap();
             assert_eq!(d.ask(0), Ok(State::Prepared));
         }
+    }
+
+    /// The label with PRF 1 every five seconds at most, the last time at `to`.
+    fn keep(d: &mut Desk, from: u32, to: u32, tuner: u8, mi: u8) {
+        for second in (from..to).step_by(5).chain([to]) {
+            say(d, second, tuner, 0, PIL, mi, 1);
+        }
+    }
+
+    fn asked(d: &mut Desk, second: u32) -> State {
+        d.wait(second).unwrap();
+        d.ask(0).unwrap()
+    }
+
+    #[test]
+    fn more_than_60_seconds_prepared_start() {
+        let mut d = desk();
+        keep(&mut d, T, T + 58, 1, 0);
+        assert_eq!((asked(&mut d, T + 60), d.live()), (State::Prepared, 0));
+        assert_eq!((asked(&mut d, T + 61), d.live()), (State::Recording(4), 1));
+        assert_eq!(asked(&mut d, T + 63), State::Recording(4));
+        assert_eq!(asked(&mut d, T + 64), State::RunningOn(4));
+        assert_eq!(asked(&mut d, T + 93), State::RunningOn(4));
+        assert_eq!(asked(&mut d, T + 94), State::Waiting);
+        // a match that lapses as the minute is over starts nothing
+        let mut d = desk();
+        keep(&mut d, T, T + 55, 1, 0);
+        assert_eq!(asked(&mut d, T + 60), State::Prepared);
+        assert_eq!(asked(&mut d, T + 61), State::Waiting);
+    }
+
+    #[test]
+    fn a_start_inside_a_wait_walks_at_most_36_seconds() {
+        let mut d = desk();
+        keep(&mut d, T, T + 56, 0, 0);
+        assert_eq!(d.wait(T + 1_000), Ok(36));
+        let mut d = desk();
+        keep(&mut d, T, T + 55, 0, 0);
+        assert_eq!(d.wait(T + 1_000), Ok(6));
+    }
+
+    #[test]
+    fn a_break_of_whatever_length_counts_anew() {
+        for gap in [0, 1, 5] {
+            let mut d = desk();
+            keep(&mut d, T, T + 40, 0, 0);
+            say(&mut d, T + 40, 0, 0, code(30), 0, 1);
+            assert_eq!(d.ask(0), Ok(State::Waiting));
+            let anew = T + 40 + gap;
+            keep(&mut d, anew, anew + 60, 0, 0);
+            assert_eq!(d.ask(0), Ok(State::Prepared));
+            assert_eq!(asked(&mut d, anew + 61), State::Recording(0));
+        }
+        // the label comes at the second of its lapse, which passes first
+        let mut d = desk();
+        keep(&mut d, T, T + 40, 0, 0);
+        keep(&mut d, T + 46, T + 106, 0, 0);
+        assert_eq!(d.ask(0), Ok(State::Prepared));
+        assert_eq!(asked(&mut d, T + 107), State::Recording(0));
+    }
+
+    #[test]
+    fn another_place_is_no_break_and_the_lowest_starts() {
+        let mut d = desk();
+        keep(&mut d, T, T + 30, 2, 0);
+        say(&mut d, T + 30, 3, 0, PIL, 1, 1);
+        say(&mut d, T + 30, 2, 0, code(29), 0, 0);
+        assert_eq!(d.ask(0), Ok(State::Prepared));
+        keep(&mut d, T + 31, T + 58, 3, 1);
+        say(&mut d, T + 60, 1, 0, PIL, 0, 1);
+        assert_eq!(d.ask(0), Ok(State::Prepared));
+        assert_eq!(asked(&mut d, T + 61), State::Recording(4));
+    }
+
+    #[test]
+    fn prepared_from_the_moment_in_which_a_copy_ended() {
+        for (mi, ended) in [(1, T + 2), (0, T + 32)] {
+            let mut d = desk();
+            say(&mut d, T, 0, 0, PIL, mi, 0);
+            keep(&mut d, T + 1, T + 2, 1, 0);
+            say(&mut d, T + 2, 0, 0, code(30), 0, 0);
+            keep(&mut d, T + 3, ended + 60, 1, 0);
+            assert_eq!(d.ask(0), Ok(State::Prepared));
+            assert_eq!(asked(&mut d, ended + 61), State::Recording(4));
+        }
+    }
+
+    #[test]
+    fn what_the_minute_starts_is_an_ordinary_recording() {
+        for mi in [0, 1] {
+            let mut d = desk();
+            keep(&mut d, T, T + 60, 1, mi);
+            assert_eq!(asked(&mut d, T + 61), State::Recording(4));
+            // another match, lower too, does not take it away, whichever PRF is sent
+            say(&mut d, T + 61, 0, 0, PIL, 0, 1);
+            keep(&mut d, T + 61, T + 65, 1, mi);
+            assert_eq!(d.ask(0), Ok(State::Recording(4)));
+            say(&mut d, T + 66, 0, 0, PIL, 0, 1);
+            say(&mut d, T + 66, 1, 0, code(30), 1 - mi, 0);
+            let leaves = [State::RunningOn(4), State::Prepared][mi as usize];
+            assert_eq!(d.ask(0), Ok(leaves));
+            say(&mut d, T + 67, 0, 0, PIL, 0, 0);
+            assert_eq!(d.ask(0), Ok(State::Recording(0)));
+        }
+    }
+
+    #[test]
+    fn a_window_that_closes_starts_nothing() {
+        let close = 80_107_200;
+        for (from, state) in [(close - 61, State::Prepared), (close - 62, State::Recording(0))] {
+            let mut d = desk();
+            keep(&mut d, from, close - 1, 0, 0);
+            assert_eq!(d.ask(0), Ok(state));
+            say(&mut d, close, 0, 0, PIL, 0, 1);
+            assert_eq!((d.ask(0), d.live()), (Ok(State::Ended), 0));
+        }
+    }
+
+    #[test]
+    fn a_timer_added_again_counts_anew() {
+        let mut d = desk();
+        keep(&mut d, T, T + 50, 0, 0);
+        assert_eq!((d.cancel(0), d.add(CNI, PIL, 2)), (0, Ok(0)));
+        keep(&mut d, T + 51, T + 110, 0, 0);
+        assert_eq!(d.ask(0), Ok(State::Prepared));
+        assert_eq!(asked(&mut d, T + 111), State::Recording(0));
     }
 
     #[test]

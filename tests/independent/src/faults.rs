@@ -33,6 +33,45 @@ faults! {
     PrfStarts: "PRF 1 starts a recording",
     PrfStops: "PRF 1 stops a recording",
     MovesAlways: "a recording moves to the lowest match though its own still matches",
+    StartsAt60: "a prepared timer starts at the sixtieth second",
+    StartsAt62: "a prepared timer starts at the sixty-second second",
+    NeverStarts: "a prepared timer starts with PRF 0 only, however long it takes",
+    StartsAtCallOnly: "whether a minute is over is judged when a call is made",
+    StartsOnce: "a timer that has recorded is not started after a minute again",
+    StartsAtHighest: "after a minute the highest match starts",
+    StartsAtFirst: "after a minute the place that was the lowest when the timer became prepared starts, if it still matches",
+    StartsAtNewest: "after a minute the match that was sent last starts",
+    StartsWithLapsed: "after a minute a match that has just lapsed starts",
+    StartsAsMi0: "the start after a minute remembers MI 0",
+    StartsAsMi1: "the start after a minute remembers MI 1",
+    StartedStops: "a recording that began after a minute is prepared again by PRF 1",
+    StartedMovesLower: "a recording that began after a minute moves to a lower match",
+    StartedMovesToPrf1: "a recording that began after a minute moves to a match with PRF 1 when its label leaves",
+    StartedNeverRunsOn: "a recording that began after a minute does not run on",
+    StartedAlwaysRunsOn: "a recording that began after a minute runs on with MI 1 too",
+    StartedIsNotLive: "a recording that began after a minute is not live",
+    StartedSaysPrepared: "a recording that began after a minute is said to be prepared",
+    MomentsForSeconds: "the moments of being prepared are counted, not the seconds",
+    OneSecondForAll: "the second of being prepared is kept once for all timers",
+    PreparedFromStamp: "a timer is prepared from the stamp of its match",
+    PreparedFromRunOn: "a timer is prepared from the second at which its run-on began",
+    PreparedAfterEnd: "a timer is prepared from the second after that at which its recording or run-on ended",
+    PreparedBeforeEnd: "a timer is prepared from the second before that at which its recording or run-on ended",
+    PreparedBeforeOpening: "a match with PRF 1 prepares a timer before its window opens",
+    PreparedPastClose: "a prepared timer starts after its window's close",
+    LabelAgainBreaks: "the label sent again counts the minute anew",
+    PacketBreaks: "every packet counts the minute anew",
+    ContinuationBreaks: "continuation counts the minute anew",
+    CodeElsewhereBreaks: "RI/T or interruption at another place counts the minute anew",
+    OtherMiBreaks: "the label sent with another MI counts the minute anew",
+    OtherPlaceBreaks: "the match going to another place counts the minute anew",
+    CallBreaks: "another timer that is added or cancelled counts the minute anew",
+    InstantIsNoBreak: "a break within one second is none",
+    LapseIsNoBreak: "a lapse is no break",
+    LabelIsNoBreak: "another label in the place of the match is no break",
+    RecordingIsNoBreak: "a recording between is no break",
+    NothingIsABreak: "the minute counts from the first second at which the timer was prepared",
+    CancelKeepsSecond: "a timer cancelled and added again keeps its second",
     HighestPlace: "the highest place comes first",
     LciBeforeTuner: "places are ordered by LCI, then tuner",
     SecondCopy: "a second match is a second copy",
@@ -132,7 +171,9 @@ impl Fault {
         use Fault::*;
         matches!(
             self,
-            LeavesToWaiting
+            StartedSaysPrepared
+                | CallBreaks
+                | CancelKeepsSecond
                 | ContinuationAsksProgramme
                 | AddIsNoMoment
                 | TwinBeforeEnded

@@ -9,4 +9,5 @@ pub mod random;
 pub mod scenes;
 pub mod sheet;
 pub mod sheets;
+pub mod stretch;
 pub mod teaching;

@@ -4,6 +4,7 @@
 use crate::calendar::{self, END};
 use crate::paper::{self, good, Label};
 use crate::random::Random;
+use crate::stretch::Stretch;
 
 pub type Timer = (u16, u32, u8);
 pub type Packet = (u32, u8, Vec<u8>);
@@ -31,13 +32,23 @@ pub struct Scene {
     repeats: u64,
 }
 
-fn one<T: Copy>(r: &mut Random, of: &[T]) -> T {
+pub fn one<T: Copy>(r: &mut Random, of: &[T]) -> T {
     of[r.below(of.len() as u64) as usize]
 }
 
 /// A service code.
-fn code(hour: u32) -> u32 {
+pub fn code(hour: u32) -> u32 {
     15 << 11 | hour << 6 | 63
+}
+
+/// A packet with a label, at times with bits that are put right.
+pub fn sent(r: &mut Random, label: &Label) -> Vec<u8> {
+    let mut bytes = if r.once_in(2) { vec![0x20; 42] } else { r.bytes(42) };
+    paper::write(label, &mut bytes);
+    if r.once_in(3) {
+        r.wrong_bits(&mut bytes);
+    }
+    bytes
 }
 
 /// A real date, often one at which a calendar is easily wrong.
@@ -314,6 +325,22 @@ impl Scene {
         (tuner, label)
     }
 
+    /// A stretch of PRF 1, from where what was live is over or from here, or one in which the first programme's window closes.
+    pub fn stretch<'a>(&'a self, r: &'a mut Random) -> Option<Stretch<'a>> {
+        let (opens, closes) = self.programmes[0].window;
+        let from = match r.below(6) {
+            0 => self.now + r.below(3) as u32,
+            1 if !self.steady => self.now.max(closes - 20 - r.below(60) as u32),
+            _ => self.now.saturating_add(36 + r.below(9) as u32),
+        };
+        if opens > from.saturating_add(60) || from >= closes {
+            return None;
+        }
+        let (beside, programme) = (r.once_in(3), self.programme(r));
+        let stretch = Stretch::new(r, self.first(), &self.places, (from, from.max(opens)));
+        Some(if beside && programme != self.first() { stretch.beside(programme) } else { stretch })
+    }
+
     /// The next packet, which the desk accepts three times in four or more.
     pub fn packet(&mut self, r: &mut Random) -> Packet {
         let time = self.time(r);
@@ -321,11 +348,7 @@ impl Scene {
         if r.once_in(24) {
             label.luf = 1;
         }
-        let mut bytes = if r.once_in(2) { vec![0x20; 42] } else { r.bytes(42) };
-        paper::write(&label, &mut bytes);
-        if r.once_in(3) {
-            r.wrong_bits(&mut bytes);
-        }
+        let mut bytes = sent(r, &label);
         let mut refused = label.luf == 1;
         let mut when = time;
         match r.below(64) {

@@ -1,4 +1,5 @@
 //! Random sheets, the same for the same seed, of scenes in which states change.
+use crate::calls::Call;
 use crate::random::Random;
 use crate::scenes::{Packet, Scene, Timer};
 
@@ -28,12 +29,31 @@ fn sections(r: &mut Random, scene: &mut Scene, length: u64) -> (Vec<Timer>, Vec<
     (timers, packets)
 }
 
+/// The packets of a stretch of PRF 1.
+fn stretch(r: &mut Random, scene: &mut Scene) -> Vec<Packet> {
+    let (calls, until) = match scene.stretch(r) {
+        Some(stretch) => stretch.packets_only().made(),
+        None => return Vec::new(),
+    };
+    scene.pass(until);
+    let packet = |call| match call {
+        Call::Packet(time, tuner, bytes) => Some((time, tuner, bytes)),
+        _ => None,
+    };
+    calls.into_iter().filter_map(packet).collect()
+}
+
 pub fn sheet(seed: u64) -> Vec<u8> {
     let mut random = Random::new(seed ^ 0x5EE7);
     let r = &mut random;
     let mut scene = Scene::of(seed, r);
     let length = scene.length(r);
-    let (timers, packets) = sections(r, &mut scene, length);
+    let before = r.below(2 * length + 2);
+    let (timers, mut packets) = sections(r, &mut scene, before.min(length));
+    if before < length {
+        packets.extend(stretch(r, &mut scene));
+        packets.extend((before..length).map(|_| scene.packet(r)));
+    }
     let mut sheet = bytes(&timers, &packets);
     match r.below(16) {
         0 | 1 => sheet.truncate(r.below(sheet.len() as u64) as usize),
@@ -85,6 +105,9 @@ pub fn largest(seed: u64) -> Vec<u8> {
     let each = 0xFFFF / scenes.len() + 1;
     for scene in &mut scenes {
         timers.extend(scene.timers(r));
+        for _ in 0..20 {
+            packets.extend(stretch(r, scene));
+        }
         packets.extend((0..each).map(|_| scene.packet(r)));
     }
     while timers.len() < 255 {

@@ -31,12 +31,20 @@ const RIT: u32 = 15 << 11 | 30 << 6 | 63;
 /// A programme that no timer waits for.
 const OTHER: u32 = PIL + 5;
 
-fn sent(pil: u32, mi: u8) -> Vec<u8> {
+fn written(label: Label) -> Vec<u8> {
     let mut packet = vec![0x15; 9];
     packet.resize(42, 0x20);
-    let label = Label { designation: 2, mi, cni: CNI, pil, ..Label::default() };
     assert_eq!(paper::write(&label, &mut packet), 0);
     packet
+}
+
+fn sent(pil: u32, mi: u8) -> Vec<u8> {
+    written(Label { designation: 2, mi, cni: CNI, pil, ..Label::default() })
+}
+
+/// The timer's label with PRF at 1, and MI 1.
+fn flagged() -> Vec<u8> {
+    written(Label { designation: 2, prf: 1, mi: 1, cni: CNI, pil: PIL, ..Label::default() })
 }
 
 fn damaged(mut packet: Vec<u8>) -> Vec<u8> {
@@ -106,5 +114,21 @@ pub fn lessons() -> Vec<Lesson> {
                 (T + 4, 0, own()),
             ],
         ),
+        lesson(
+            "a_flag_that_never_falls",
+            "PRF may stay at 1 through a whole programme: a timer is prepared for sixty seconds and records at the sixty-first. RI/T and the \
+             label again within one second count them anew, the label going to the second tuner does not, and what began so stops as any \
+             recording with MI 1.",
+            a_flag_that_never_falls(),
+        ),
     ]
+}
+
+/// Prepared at T, again from T + 5 on, and heard by the second tuner from T + 35 on.
+fn a_flag_that_never_falls() -> Vec<Packet> {
+    let mut packets = vec![(T, 0, flagged()), (T + 5, 0, sent(RIT, 1))];
+    packets.extend((5..35).step_by(5).map(|second| (T + second, 0, flagged())));
+    packets.extend((35..=60).step_by(5).chain([61, 65, 66, 71]).map(|second| (T + second, 1, flagged())));
+    packets.push((T + 72, 1, sent(RIT, 0)));
+    packets
 }

@@ -72,7 +72,7 @@ fn every_fault_is_caught() {
     });
 }
 
-/// How often each is caught, in about a minute:
+/// How often each is caught, in some two minutes:
 /// `tools/cargo --own test --release --manifest-path tests/independent/Cargo.toml --test faults -- --ignored --nocapture`.
 #[test]
 #[ignore]
