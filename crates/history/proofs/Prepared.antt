@@ -1,14 +1,13 @@
 -- A copy that is prepared, from moment to moment: up to 60 seconds, and then recording; and that a break counts anew.
-use Prim.Native.Nat.{ℕ, zero, suc, _+_, _-_, _≤_, _<_}
+use Prim.Native.Nat.{ℕ, zero, suc, _+_, _-_, _≤_}
 use mathlib.Core.Path.{_≡_, refl, sym, ap, _∙_}
-use mathlib.Core.Bool.{Bool, true, false, not, true≢false}
+use mathlib.Core.Bool.{Bool, true, false}
 use mathlib.Core.List.{List, [], _∷_, _++_}
 use mathlib.Core.Logic.{inl, inr}
 use native.Mathlib.Omega.{arith}
-use borrow.Author.Tests.{lt-ltb, le-ltb, not-true}
-use lib.ListN.{getD}
+use borrow.Author.Tests.{lt-ltb, le-ltb}
 use Rattle.answer.proofs.Cases.{by-test}
-use Rattle.rule.specs.Rule.{noLabel, endedAt, matches, recordingAt, prepareFor, fromPrepared, at, held, nextCopy, nextTimer}
+use Rattle.rule.specs.Rule.{endedAt, recordingAt, prepareFor, fromPrepared, held, nextCopy, nextTimer}
 use Rattle.rule.specs.declared.Stamped.{Stamped}
 use Rattle.rule.specs.declared.Booking.{Booking}
 use Rattle.rule.specs.declared.Copy.{Copy}
@@ -19,18 +18,17 @@ use Rattle.rule.proofs.Steps.{next-prepared, recording-stays}
 use Rattle.sixteen.specs.Sixteen.{noTimer, active}
 use Rattle.desk.specs.declared.Desk.{Desk}
 use Rattle.desk.specs.Moments.{moment, clockedAt, nextSecond, walk, passTo}
-use Rattle.desk.specs.Calls.{roomIn, withLabel, withTimer, timerAt}
-use Rattle.desk.proofs.Settle.{Settled, lowest-passes, nextSecond-settled, nextCopy-ended, walk-keeps}
+use Rattle.desk.specs.Calls.{withLabel, withTimer, timerAt}
+use Rattle.desk.proofs.Settle.{Settled, nextSecond-settled, nextCopy-ended, walk-keeps}
 use Rattle.desk.proofs.Jump.{timerAt-moment, walk-clock}
 use Rattle.history.specs.Run.{Call, cancel, outcome, left}
-use Rattle.history.specs.Prepared.{secondsOf, momentsIn, OnlyPrf1, LowestMatch, RecordsFrom, PreparedThenRecords, preparedSince}
+use Rattle.history.specs.Prepared.{secondsOf, momentsIn, OnlyPrf1, RecordsFrom, PreparedThenRecords, preparedSince}
 use Rattle.history.specs.Laws.{Each, Sound}
 use Rattle.history.proofs.Lists.{getD-set}
 use Rattle.history.proofs.Windows.{open-not-ended, matches-open}
-use Rattle.history.proofs.Waits.{passTo-clock}
 use Rattle.history.proofs.Next.{next-is, next-prepared-since}
 use Rattle.history.proofs.Sees.{sees-prepare, prepare-only}
-use Rattle.history.proofs.Steps.{Step, same, hears, waits, passes, adds, cancels, step}
+use Rattle.history.proofs.Steps.{Step, same, hears, waits, passes, adds, cancels, step, other-slot, room-apart}
 use Rattle.history.proofs.Keeps.{keeps, copy-moment}
 
 -- ── from one moment to the next ────────────────────────────────────────────────────────────────────────────────────
@@ -75,17 +73,6 @@ module _ (slot : ℕ) where
       Chain d (secondsOf (e .clock - d .clock) d ++ e ∷ es)
   chain-after n d e es k g c = let z : e .clock - d .clock ≡ n = omega arith in rw z (chain-seconds n d (e ∷ es) (g, c))
 
-  -- another slot's timer
-  other-slot : (i : ℕ) (t : Timer) (d : Desk) → (slot ≡ i → ⊥) → timerAt (withTimer i t d) slot ≡ timerAt d slot
-  other-slot i t d n = elim (getD-set noTimer t (d .timers) i slot) [ inl e ↦ absurd (n (e .0)) | inr e ↦ e ]
-
-  -- the slot that adding uses holds no timer that is held and not ended
-  room-apart : (i : ℕ) (d : Desk) → roomIn d ≡ at i → active (d .clock) (timerAt d slot) ≡ true → slot ≡ i → ⊥
-  unfolding roomIn
-  room-apart i d e a k =
-      let free = not-true _ (lowest-passes (λ t. not (active (d .clock) t)) noTimer (d .timers) i e) in
-      true≢false (sym a ∙ rw k free)
-
   chain-step : {c : Call} (d : Desk) {e : Desk} → Settled d → (c ≡ cancel slot → ⊥) → Step d c e → (es : List Desk) → Chain e es →
       Chain d (secondsOf (e .clock - d .clock) d ++ e ∷ es)
   unfolding moment nextSecond walk passTo
@@ -96,9 +83,9 @@ module _ (slot : ℕ) where
       let x = passTo t d in chain-after (t - d .clock) d _ es (walk-clock (t - d .clock) d) (goes-now x x refl (λ a. refl)) c
   chain-step d h n (passes k) es c = chain-after 1 d _ es (omega arith) (settled-goes (nextSecond d) (nextSecond-settled d)) c
   chain-step d h n (adds b w i e alone room) es c =
-      chain-after 0 d _ es (omega arith) (goes-now d (withTimer i _ d) refl (λ a. other-slot i _ d (room-apart i d room a))) c
+      chain-after 0 d _ es (omega arith) (goes-now d (withTimer i _ d) refl (λ a. other-slot slot i _ d (room-apart slot i d room a))) c
   chain-step d h n (cancels i e) es c =
-      chain-after 0 d _ es (omega arith) (goes-now d (withTimer i noTimer d) refl (λ a. other-slot i noTimer d (λ k. n (e ∙ ap cancel (sym k))))) c
+      chain-after 0 d _ es (omega arith) (goes-now d (withTimer i noTimer d) refl (λ a. other-slot slot i noTimer d (λ k. n (e ∙ ap cancel (sym k))))) c
 
   chain-calls : (cs : List Call) (d : Desk) → Sound d → Each (λ c. c ≡ cancel slot → ⊥) cs → Chain d (momentsIn cs d)
   unfolding momentsIn
@@ -163,7 +150,7 @@ flag d h slot v later e n =
     (record { timer = ap (λ c. record { booking = b; copy = c }) e; lasts = prepared-lasts d (h .settled) slot v e; held-now = refl })
     (rw e at (h .prepared slot)) (chain-calls slot later d h n)
 
--- ── what prepares, and a break ────────────────────────────────────────────────────────────────────────────────────
+-- ── what prepares, and a break ─────────────────────────────────────────────────────────────────────────────────────
 pub since : (s v : ℕ) (ls : List Stamped) (b : Booking) (c : Copy) → nextCopy s ls b c ≡ Prepared v → v ≡ preparedSince s c
 since s v ls b c e = next-prepared-since s ls b (next-is s ls b c) v e .0
 

@@ -1,6 +1,6 @@
 -- The laws of every sequence of calls from a fresh desk.
 use Prim.Native.Nat.{_-_}
-use Rattle.desk.specs.Moments.{walkedTo}
+use Rattle.desk.specs.Moments.{walk, walkedTo}
 use Rattle.history.specs.Run.{reached}
 use Rattle.history.specs.Laws.{Laws}
 use Rattle.history.proofs.Refused.{accepted-alone}
@@ -28,7 +28,7 @@ laws =
       clock-within = clock-within;
       stays = λ cs. stays (reached cs) (sound-reached cs);
       starts = starts;
-      flag = λ cs. flag (reached cs) (sound-reached cs);
+      flag = λ cs n. flag (walk n (reached cs)) (sound-walk n (reached cs) (sound-reached cs));
       since = since;
       prepares = prepares;
       break = break;

@@ -1,11 +1,11 @@
 -- A recording stays with its place while its label stands there, and what starts or moves a copy.
 use Prim.Native.Nat.{ℕ, zero, suc, _+_, _-_, _≤_}
 use mathlib.Core.Path.{_≡_, refl, sym, ap, _∙_}
-use mathlib.Core.Bool.{Bool, true, false, not, _&&_, true≢false}
+use mathlib.Core.Bool.{Bool, true, false, _&&_}
 use mathlib.Core.List.{List, [], _∷_}
 use mathlib.Core.Logic.{_⊎_, inl, inr}
 use native.Mathlib.Omega.{arith}
-use borrow.Author.Tests.{leb-true, le-leb, lt-ltb, eq-eqb, not-true}
+use borrow.Author.Tests.{leb-true, le-leb, lt-ltb, eq-eqb}
 use lib.Dec.{leb, eqb}
 use lib.ListN.{getD}
 use Rattle.answer.proofs.Cases.{both-true}
@@ -16,18 +16,17 @@ use Rattle.rule.specs.declared.Copy.{Copy}
 use Rattle.rule.specs.declared.Copy.the-variants.{Recording}
 use Rattle.rule.specs.declared.Timer.{Timer}
 use Rattle.desk.specs.declared.Desk.{Desk}
-use Rattle.sixteen.specs.Sixteen.{noTimer, active}
+use Rattle.sixteen.specs.Sixteen.{noTimer}
 use Rattle.desk.specs.Moments.{moment, clockedAt, nextSecond, walk, passTo}
 use Rattle.desk.specs.Calls.{roomIn, withLabel, withTimer, timerAt}
-use Rattle.desk.proofs.Settle.{lowest-passes, nextCopy-open}
+use Rattle.desk.proofs.Settle.{nextCopy-open}
 use Rattle.desk.proofs.Jump.{timerAt-moment, walk-clock}
 use Rattle.history.specs.Run.{Call, cancel, deskAfter}
 use Rattle.history.specs.Laws.{Sound, recordsAt, longPrepared}
-use Rattle.history.proofs.Lists.{getD-set}
 use Rattle.history.proofs.Windows.{open-not-ended, open-later, not-ended-before, matches-open}
 use Rattle.history.proofs.Next as next
 use Rattle.history.proofs.Next.{Next, next-is}
-use Rattle.history.proofs.Steps.{Step, same, hears, waits, passes, adds, cancels, step}
+use Rattle.history.proofs.Steps.{Step, same, hears, waits, passes, adds, cancels, step, other-slot, room-apart}
 use Rattle.history.proofs.OneCopy.{live-active}
 
 -- ── what starts a copy ─────────────────────────────────────────────────────────────────────────────────────────────
@@ -98,17 +97,13 @@ module _ (slot place : ℕ) (b : Booking) where
       let n = t - d .clock in
       walk-records n d r λ s h k. matches-between b _ (d .clock) s (walk n d .clock) h (omega (arith, walk-clock n d)) o m
 
-  -- another slot takes a timer
-  other-records : (i : ℕ) (t : Timer) (d : Desk) → (slot ≡ i → ⊥) → Records d → Records (withTimer i t d)
-  other-records i t d n r = elim (getD-set noTimer t (d .timers) i slot) [ inl e ↦ absurd (n (e .0)) | inr e ↦ (r .0, e ∙ r .1) ]
-
   -- the slot that adding uses holds no live copy
   room-other : (i : ℕ) (d : Desk) → Sound d → Records d → roomIn d ≡ at i → slot ≡ i → ⊥
-  unfolding roomIn
-  room-other i d h r e k =
-      let live : active (d .clock) (timerAt d slot) ≡ true = live-active d h slot (rw (r .1)) in
-      let free = not-true _ (lowest-passes (λ t. not (active (d .clock) t)) noTimer (d .timers) i e) in
-      true≢false (sym live ∙ rw k free)
+  room-other i d h r e = room-apart slot i d e (live-active d h slot (rw (r .1)))
+
+  -- another slot takes a timer
+  other-records : (i : ℕ) (t : Timer) (d : Desk) → (slot ≡ i → ⊥) → Records d → Records (withTimer i t d)
+  other-records i t d n r = (r .0, other-slot slot i t d n ∙ r .1)
 
   records-open : (d : Desk) → Sound d → Records d → openAt (d .clock) b ≡ true
   records-open d h r = (rw (r .1) at (h .open-window slot)) refl

@@ -1,9 +1,10 @@
 -- What a call leaves of the desk, by cases.
 use Prim.Native.Nat.{ℕ, _≤_, _<_}
-use mathlib.Core.Path.{_≡_, refl}
-use mathlib.Core.Bool.{Bool, true, false, cond, _&&_, true≢false}
+use mathlib.Core.Path.{_≡_, refl, sym, _∙_}
+use mathlib.Core.Bool.{Bool, true, false, cond, not, _&&_, true≢false}
 use mathlib.Core.List.{List, [], _∷_}
-use borrow.Author.Tests.{leb-false, ltb-false}
+use mathlib.Core.Logic.{inl, inr}
+use borrow.Author.Tests.{leb-false, ltb-false, not-true}
 use lib.Dec.{leb}
 use Rattle.answer.specs.Answer.{Answer, refused, given, Row, firstOf, andThen}
 use Rattle.label.specs.declared.Label.{Label}
@@ -14,12 +15,15 @@ use Rattle.answer.specs.Lists.{some}
 use Rattle.rule.specs.Rule.{Found, nowhere, at}
 use Rattle.rule.specs.declared.Booking.{Booking}
 use Rattle.rule.specs.declared.Copy.the-variants.{Waiting}
+use Rattle.rule.specs.declared.Timer.{Timer}
 use Rattle.desk.specs.declared.Desk.{Desk}
 use Rattle.sixteen.specs.Sixteen.{noTimer, active, sameBooking, isNowhere, slotOf}
 use Rattle.desk.specs.Moments.{moment, nextSecond, passTo}
 use Rattle.reply.specs.Numbers.{Says}
-use Rattle.desk.specs.Calls.{Told, tunerRows, timeRows, labelRows, withLabel, hearingAt, packetOf, waitOf, secondOf, roomIn, withTimer, addRows, addOf, slotRows, cancelOf, askOf}
+use Rattle.desk.specs.Calls.{Told, tunerRows, timeRows, labelRows, withLabel, hearingAt, packetOf, waitOf, secondOf, roomIn, withTimer, addRows, addOf, slotRows, cancelOf, askOf, timerAt}
 use Rattle.history.specs.Run.{Call, packet, wait, second, add, cancel, ask, live, onlyDesk, toldToo, saysOnly, outcome, left}
+use Rattle.desk.proofs.Settle.{lowest-passes}
+use Rattle.history.proofs.Lists.{getD-set}
 
 pub data Step (d : Desk) (c : Call) : Desk → Type 0 where
   -- it is refused, or only asks
@@ -123,3 +127,15 @@ step d (add b) = step-told d _ (addOf b d) (step-add d _ b)
 step d (cancel slot) = step-desk d _ (cancelOf slot d) (step-cancel d _ slot refl)
 step d (ask slot) = step-asked d _ (askOf slot d)
 step d live = same
+
+-- ── a slot that another timer is put beside ────────────────────────────────────────────────────────────────────────
+module _ (slot i : ℕ) where
+  pub other-slot : (t : Timer) (d : Desk) → (slot ≡ i → ⊥) → timerAt (withTimer i t d) slot ≡ timerAt d slot
+  other-slot t d n = elim (getD-set noTimer t (d .timers) i slot) [ inl e ↦ absurd (n (e .0)) | inr e ↦ e ]
+
+  -- the slot that adding uses holds no timer that is held and not ended
+  pub room-apart : (d : Desk) → roomIn d ≡ at i → active (d .clock) (timerAt d slot) ≡ true → slot ≡ i → ⊥
+  unfolding roomIn
+  room-apart d e a k =
+      let free = not-true _ (lowest-passes (λ t. not (active (d .clock) t)) noTimer (d .timers) i e) in
+      true≢false (sym a ∙ rw k free)

@@ -135,9 +135,9 @@ pub record Laws : Type 0 where
   -- only a label with PRF 0 starts or moves a copy, or more than 60 seconds of being prepared start it
   pub starts : (s q : ℕ) (ls : List Stamped) (b : Booking) (c : Copy) (mi : Bool) → nextCopy s ls b c ≡ Recording q mi →
       (matches s b (getD ls q noLabel) ≡ true) × ((getD ls q noLabel .prf ≡ false) ⊎ (recordsAt q c ≡ true) ⊎ (longPrepared s c ≡ true))
-  -- 'a timer that has been prepared without a break for more than 60 seconds starts recording at the lowest place that matches', whatever else
-  -- is heard, while the timer is not cancelled
-  pub flag : (cs : List Call) (slot v : ℕ) (later : List Call) → let d = reached cs in
+  -- 'a timer that has been prepared without a break for more than 60 seconds starts recording at the lowest place that matches': from every call
+  -- and every second that passes, whatever else is heard, while the timer is not cancelled
+  pub flag : (cs : List Call) (n slot v : ℕ) (later : List Call) → let d = walk n (reached cs) in
       timerAt d slot .copy ≡ Prepared v → Each (λ c. c ≡ cancel slot → ⊥) later →
       PreparedThenRecords slot (timerAt d slot .booking) v (momentsIn later d)
   -- and nothing but a match of PRF 1, with none of PRF 0, makes or keeps a copy prepared

@@ -5,7 +5,7 @@ use mathlib.Core.Bool.{false}
 use mathlib.Core.List.{List, [], _∷_}
 use native.Mathlib.Omega.{arith}
 use borrow.Author.Tests.{le-ltb}
-use Rattle.rule.specs.Rule.{endedAt, matches, sightOf, notLive, prepareFor, movesOr, fromRecording, runFor, fromRunningOn, nextCopy, isLive}
+use Rattle.rule.specs.Rule.{endedAt, sightOf, notLive, prepareFor, movesOr, fromRecording, runFor, fromRunningOn, nextCopy, isLive}
 use Rattle.rule.specs.declared.Stamped.{Stamped}
 use Rattle.rule.specs.declared.Booking.{Booking}
 use Rattle.rule.specs.declared.Copy.{Copy}
@@ -14,6 +14,7 @@ use Rattle.rule.specs.declared.Sight.{Sight}
 use Rattle.rule.specs.declared.Sight.the-variants.{Nothing, Prepare, Start}
 use Rattle.rule.proofs.Steps.{next-waiting, next-prepared}
 use Rattle.desk.specs.declared.Desk.{Desk}
+use Rattle.desk.specs.Moments.{walk}
 use Rattle.desk.specs.Calls.{timerAt}
 use Rattle.desk.proofs.Settle.{nextCopy-open}
 use Rattle.history.proofs.Windows.{open-not-ended, matches-open}
@@ -45,7 +46,6 @@ module _ (s : ℕ) (ls : List Stamped) (b : Booking) (none : NoneStarts s ls b) 
       go Nothing e = refl
 
 -- ── a match of PRF 1 only ──────────────────────────────────────────────────────────────────────────────────────────
--- ── each match has PRF 1 ───────────────────────────────────────────────────────────────────────────────────────────
 module _ (s : ℕ) (ls : List Stamped) (b : Booking) (h : OnlyPrf1 s ls b) where
   not-ended : endedAt s b ≡ false
   not-ended = open-not-ended b s (matches-open b s _ (h .matching))
@@ -64,11 +64,11 @@ each-prepared slot v b [] h k = tt
 each-prepared slot v b (e ∷ es) h k =
     let now = k (h .0 .1) .0 (h .0 .0) in ((rw (now .0), rw (now .0)), each-prepared slot v b es (h .1) (now .1))
 
-pub prepared-to-60 : (cs : List Call) (slot v : ℕ) (later : List Call) → let d = reached cs in
+pub prepared-to-60 : (cs : List Call) (n slot v : ℕ) (later : List Call) → let d = walk n (reached cs) in
     timerAt d slot .copy ≡ Prepared v → Each (λ c. c ≡ cancel slot → ⊥) later →
     Each (λ e. (e .clock ≤ v + 60) × OnlyPrf1 (e .clock) (e .places) (timerAt d slot .booking)) (momentsIn later d) →
     Each (IsPrepared slot v) (momentsIn later d)
-prepared-to-60 cs slot v later e n h =
-    let d = reached cs in
+prepared-to-60 cs n slot v later e k h =
+    let d = walk n (reached cs) in
     let b = timerAt d slot .booking in
-    each-prepared slot v b (momentsIn later d) h (history.laws .flag cs slot v later e n)
+    each-prepared slot v b (momentsIn later d) h (history.laws .flag cs n slot v later e k)

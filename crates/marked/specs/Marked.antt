@@ -282,7 +282,7 @@ pub record Marked : Type 0 where
       (nextCopy s ls b c ≡ Prepared v) × (isLive (nextCopy s ls b c) ≡ false)
   -- .. and 'example 11 holds up to 60 seconds': with such a match kept standing, at every moment up to v+60, whatever else is heard, while the
   -- timer is not cancelled; v is t where it became prepared at t
-  pub eleven-to-60 : (cs : List Call) (slot v : ℕ) (later : List Call) → let d = reached cs in
+  pub eleven-to-60 : (cs : List Call) (n slot v : ℕ) (later : List Call) → let d = walk n (reached cs) in
       timerAt d slot .copy ≡ Prepared v → Each (λ c. c ≡ cancel slot → ⊥) later →
       Each (λ e. (e .clock ≤ v + 60) × OnlyPrf1 (e .clock) (e .places) (timerAt d slot .booking)) (momentsIn later d) →
       Each (IsPrepared slot v) (momentsIn later d)

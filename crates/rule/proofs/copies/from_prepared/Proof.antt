@@ -6,24 +6,6 @@ use borrow.Author.Needs.{needs}
 use Rattle.rule.proofs.copies.from_prepared.Statement.{statement}
 use Rattle.rule.proofs.copies.from_prepared.Tie as tie
 
-sight-of-requires : tie.Need-sight-of-requires
-sight-of-requires c κs = search needs
-
-enum-told : tie.Need-enum-told
-enum-told c = search needs
-
-enum-known-now : tie.Need-enum-known-now
-enum-known-now c = search needs
-
-prepared-from-requires : tie.Need-prepared-from-requires
-prepared-from-requires c κs = search needs
-
-enum-known-now-2 : tie.Need-enum-known-now-2
-enum-known-now-2 c = search needs
-
-recording-at-requires : tie.Need-recording-at-requires
-recording-at-requires c κs = search needs
-
 returns : tie.Need-returns
 returns c =
     let v = c .before .before in
@@ -46,12 +28,12 @@ pub from-prepared-spec : {M : Type 1} → statement M
 from-prepared-spec =
     tie.close
     (tie.spec
-    sight-of-requires
-    enum-told
-    enum-known-now
-    prepared-from-requires
-    enum-known-now-2
-    recording-at-requires
+    (λ c κs. search needs)
+    (λ c. search needs)
+    (λ c. search needs)
+    (λ c κs. search needs)
+    (λ c. search needs)
+    (λ c κs. search needs)
     returns
     returns-2
     returns-3)
