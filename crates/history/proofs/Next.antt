@@ -17,7 +17,7 @@ use Rattle.rule.specs.declared.Sight.the-variants.{Nothing, Prepare, Start}
 use Rattle.rule.proofs.Steps.{not-held, free-copy}
 use Rattle.desk.proofs.Settle.{start-matches, prepare-matches, nextCopy-open, nextCopy-ended}
 use Rattle.history.specs.Prepared.{preparedSince}
-use Rattle.history.specs.Laws.{SinceBy, PreparedBy}
+use Rattle.history.specs.Laws.{SinceBy, PreparedWithin}
 use Rattle.history.proofs.Windows.{matches-open}
 
 -- ── the cases ──────────────────────────────────────────────────────────────────────────────────────────────────────
@@ -131,7 +131,7 @@ module _ (s : ℕ) (ls : List Stamped) (b : Booking) where
   next-since (runs p v e o r) h = rw e at h
 
   -- and none is prepared for more than 60 seconds
-  pub next-within : {c n : Copy} → Next c n → PreparedBy s n
+  pub next-within : {c n : Copy} → Next c n → PreparedWithin s n
   unfolding recordingAt
   next-within (free e) = tt
   next-within (waits k) = tt

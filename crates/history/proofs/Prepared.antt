@@ -36,8 +36,7 @@ module _ (slot : ℕ) where
   -- a timer that is held and not ended goes on by the rule, and no second is left out
   record GoesOn (d e : Desk) : Type 0 where
     pub timer : active (d .clock) (timerAt d slot) ≡ true → timerAt e slot ≡ nextTimer (e .clock) (e .places) (timerAt d slot)
-    pub not-back : d .clock ≤ e .clock
-    pub next : e .clock ≤ suc (d .clock)
+    pub next-clock : e .clock ≤ suc (d .clock)
 
   abbrev Chain : Desk → List Desk → Type 0
   Chain d [] = Unit {0}
@@ -47,8 +46,7 @@ module _ (slot : ℕ) where
   unfolding nextSecond moment
   goes-second d = record {
     timer = λ a. timerAt-moment (clockedAt (suc (d .clock)) d) slot;
-    not-back = omega arith;
-    next = omega arith;
+    next-clock = omega arith;
   }
 
   -- a moment of the same second, with this slot's timer as it was
@@ -56,8 +54,7 @@ module _ (slot : ℕ) where
   unfolding moment
   goes-now d x e t = record {
     timer = λ a. timerAt-moment x slot ∙ ap (nextTimer (x .clock) (x .places)) (t a);
-    not-back = omega arith;
-    next = omega arith;
+    next-clock = omega arith;
   }
 
   settled-goes : (d : Desk) → Settled d → GoesOn d d
@@ -127,7 +124,7 @@ module _ (slot : ℕ) (b : Booking) where
           λ l. let t = goes-to d e h (c .0) (rw (le-ltb prepareFor (s - v) (omega arith)) at next) in
               (t, prepared-then es e (record { timer = t; lasts = lasts; held-now = refl }) l (c .1)),
           λ l. let t = goes-to d e h (c .0) (rw (lt-ltb prepareFor (s - v) (omega arith)) at next) in
-              (omega (arith, c .0 .next), (seen .0, seen .2, λ m. (t, records-from (seen .0) es e _ (record { timer = t; lasts = lasts; held-now = refl }) (c .1)))),
+              (omega (arith, c .0 .next-clock), (seen .0, seen .2, λ m. (t, records-from (seen .0) es e _ (record { timer = t; lasts = lasts; held-now = refl }) (c .1)))),
         )
 
 -- a prepared copy of a settled desk has not ended
@@ -142,9 +139,9 @@ prepared-lasts d h slot v e =
     cc)
     (λ k. k)
 
-pub flag : (d : Desk) → Sound d → (slot v : ℕ) (later : List Call) → timerAt d slot .copy ≡ Prepared v →
+pub after-60 : (d : Desk) → Sound d → (slot v : ℕ) (later : List Call) → timerAt d slot .copy ≡ Prepared v →
     Each (λ c. c ≡ cancel slot → ⊥) later → PreparedThenRecords slot (timerAt d slot .booking) v (momentsIn later d)
-flag d h slot v later e n =
+after-60 d h slot v later e n =
     let b = timerAt d slot .booking in
     prepared-then slot b v (momentsIn later d) d
     (record { timer = ap (λ c. record { booking = b; copy = c }) e; lasts = prepared-lasts d (h .settled) slot v e; held-now = refl })

@@ -10,7 +10,7 @@ use Rattle.history.proofs.Short.{walked-short}
 use Rattle.history.proofs.Keeps.{sound-walk, sound-reached, clock-within}
 use Rattle.history.proofs.OneCopy.{one-copy, no-two}
 use Rattle.history.proofs.Stays.{stays, starts}
-use Rattle.history.proofs.Prepared.{flag, since, prepares, break}
+use Rattle.history.proofs.Prepared.{after-60, since, prepares, break}
 
 pub laws : Laws
 unfolding walkedTo
@@ -28,7 +28,7 @@ laws =
       clock-within = clock-within;
       stays = λ cs. stays (reached cs) (sound-reached cs);
       starts = starts;
-      flag = λ cs n. flag (walk n (reached cs)) (sound-walk n (reached cs) (sound-reached cs));
+      after-60 = λ cs n. after-60 (walk n (reached cs)) (sound-walk n (reached cs) (sound-reached cs));
       since = since;
       prepares = prepares;
       break = break;

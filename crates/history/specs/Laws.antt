@@ -57,13 +57,13 @@ SinceBy s (Prepared v) = v ≤ s
 SinceBy s (Recording p mi) = Unit {0}
 SinceBy s (RunningOn p v) = v ≤ s
 
--- a copy prepared at second s is so for at most 60 seconds
-abbrev pub PreparedBy : ℕ → Copy → Type 0
-PreparedBy s Free = Unit {0}
-PreparedBy s Waiting = Unit {0}
-PreparedBy s (Prepared v) = s ≤ v + 60
-PreparedBy s (Recording p mi) = Unit {0}
-PreparedBy s (RunningOn p v) = Unit {0}
+-- a copy that is prepared at second s became so at most 60 seconds before
+abbrev pub PreparedWithin : ℕ → Copy → Type 0
+PreparedWithin s Free = Unit {0}
+PreparedWithin s Waiting = Unit {0}
+PreparedWithin s (Prepared v) = s ≤ v + 60
+PreparedWithin s (Recording p mi) = Unit {0}
+PreparedWithin s (RunningOn p v) = Unit {0}
 
 -- what every reachable desk keeps
 pub record Sound (d : Desk) : Type 0 where
@@ -72,7 +72,7 @@ pub record Sound (d : Desk) : Type 0 where
   pub stamps : (p : ℕ) → getD (d .places) p noLabel .stamp ≤ d .clock
   pub seconds : (slot : ℕ) → SinceBy (d .clock) (timerAt d slot .copy)
   -- nor does a prepared copy's lie more than 60 seconds back
-  pub prepared : (slot : ℕ) → PreparedBy (d .clock) (timerAt d slot .copy)
+  pub prepared : (slot : ℕ) → PreparedWithin (d .clock) (timerAt d slot .copy)
   -- a live copy's window is open
   pub open-window : (slot : ℕ) → isLive (timerAt d slot .copy) ≡ true → openAt (d .clock) (timerAt d slot .booking) ≡ true
   -- no two timers that are held and not ended are the same
@@ -135,15 +135,16 @@ pub record Laws : Type 0 where
   -- only a label with PRF 0 starts or moves a copy, or more than 60 seconds of being prepared start it
   pub starts : (s q : ℕ) (ls : List Stamped) (b : Booking) (c : Copy) (mi : Bool) → nextCopy s ls b c ≡ Recording q mi →
       (matches s b (getD ls q noLabel) ≡ true) × ((getD ls q noLabel .prf ≡ false) ⊎ (recordsAt q c ≡ true) ⊎ (longPrepared s c ≡ true))
-  -- 'a timer that has been prepared without a break for more than 60 seconds starts recording at the lowest place that matches': from every call
-  -- and every second that passes, whatever else is heard, while the timer is not cancelled
-  pub flag : (cs : List Call) (n slot v : ℕ) (later : List Call) → let d = walk n (reached cs) in
+  -- 'a timer that has been prepared without a break for more than 60 seconds now starts recording at the lowest place that matches': from every
+  -- call and every second that passes, whatever else is heard, while the timer is not cancelled
+  pub after-60 : (cs : List Call) (n slot v : ℕ) (later : List Call) → let d = walk n (reached cs) in
       timerAt d slot .copy ≡ Prepared v → Each (λ c. c ≡ cancel slot → ⊥) later →
       PreparedThenRecords slot (timerAt d slot .booking) v (momentsIn later d)
   -- and nothing but a match of PRF 1, with none of PRF 0, makes or keeps a copy prepared
   pub prepares : (s v : ℕ) (ls : List Stamped) (b : Booking) (c : Copy) → nextCopy s ls b c ≡ Prepared v → OnlyPrf1 s ls b
   -- 'the copy keeps the second at which it became prepared', whichever place matches and however often the label is sent
   pub since : (s v : ℕ) (ls : List Stamped) (b : Booking) (c : Copy) → nextCopy s ls b c ≡ Prepared v → v ≡ preparedSince s c
-  -- 'without a break': where a copy is not prepared at one moment, no later moment, of the same second or another, finds it prepared since before
+  -- 'without a break': after a moment at which a copy is not prepared no moment, of that second or a later one, finds it prepared since an
+  -- earlier second
   pub break : (d : Desk) (slot : ℕ) (later : List Call) → ((u : ℕ) → timerAt d slot .copy ≡ Prepared u → ⊥) →
       Each (λ e. (v : ℕ) → timerAt e slot .copy ≡ Prepared v → d .clock ≤ v) (momentsIn later d)

@@ -71,4 +71,4 @@ pub prepared-to-60 : (cs : List Call) (n slot v : ℕ) (later : List Call) → l
 prepared-to-60 cs n slot v later e k h =
     let d = walk n (reached cs) in
     let b = timerAt d slot .booking in
-    each-prepared slot v b (momentsIn later d) h (history.laws .flag cs n slot v later e k)
+    each-prepared slot v b (momentsIn later d) h (history.laws .after-60 cs n slot v later e k)

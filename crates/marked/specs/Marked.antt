@@ -1,4 +1,5 @@
--- The marked examples of document 01, the eleventh as 02 amends it (#101): what the definitions give, beside what the paper says. Proved in proofs/Proved.antt.
+-- The marked examples of document 01, the eleventh as 02 amends it (#101): what the definitions give, beside what the paper says. Proved in
+-- proofs/Proved.antt.
 use Prim.Native.Nat.{ℕ, zero, suc, _+_, _-_, _*_, _≤_}
 use mathlib.Core.Bool.{Bool, true, false}
 use mathlib.Core.Path.{_≡_}
@@ -121,11 +122,12 @@ saysAfter cs = saysOr (askOf 0 (reached cs))
 abbrev pub stateAfter : List Call → List ℕ
 stateAfter cs = saysAfter cs ++ liveAfter cs ∷ []
 
--- a timer, and its label with PRF 1 at t and n times again, every five seconds
+-- its label with PRF 1 at s and n times again, every five seconds
 abbrev pub flaggedFrom : ℕ → ℕ → List Call
 flaggedFrom s zero = packet 0 s (sent (labelWith pilHere 1 0)) ∷ []
 flaggedFrom s (suc n) = packet 0 s (sent (labelWith pilHere 1 0)) ∷ flaggedFrom (s + 5) n
 
+-- a timer, and its label so from t on
 abbrev pub flagged : ℕ → List Call
 flagged n = add here ∷ flaggedFrom t n
 
@@ -195,8 +197,8 @@ examples =
       gives = standsAfter (continued 5) (t + 10) ∷ standsAfter (continued 5) (t + 11) ∷ standsAfter (continued 6) (t + 6) ∷ [];
       paper = 1 ∷ 0 ∷ 0 ∷ [];
     }
-    -- 11. 'a timer not live, with a match of PRF 1 only: prepared, not live'; 02, #101: 'example 11 holds up to 60 seconds': state 1 is prepared,
-    -- also at t+60, and 2 recording, at place 0 and live, at t+61
+    -- 11. 'a timer not live, with a match of PRF 1 only: prepared, not live'; 02, #101: 'example 11 holds up to 60 seconds'. State, place and how
+    -- many are live: 1, prepared, and none live, at t and at t+60; 2, recording, at place 0, and one live, at t+61
     ∷ record {
       gives = stateAfter (flagged 0) ++ stateAfter (flagged 12) ++ stateAfter (flagged 12 ++ wait (t + 61) ∷ []);
       paper = 1 ∷ 0 ∷ 0 ∷ 1 ∷ 0 ∷ 0 ∷ 2 ∷ 0 ∷ 1 ∷ [];

@@ -115,8 +115,8 @@ notLive s ls Nothing = Waiting
 abbrev pub prepareFor : ℕ
 prepareFor = 60
 
--- prepared from second v, it goes on as a timer that is not live, but that it keeps its second, and: 'a timer that has been prepared without a
--- break for more than 60 seconds now starts recording at the lowest place that matches' (02, #101)
+-- prepared from second v, it goes on as a timer that is not live, except that it keeps its second, and that 'a timer that has been prepared
+-- without a break for more than 60 seconds now starts recording at the lowest place that matches' (02, #101)
 abbrev pub fromPrepared : ℕ → List Stamped → ℕ → Sight → Copy
 fromPrepared s ls v (Start q) = recordingAt ls q
 fromPrepared s ls v (Prepare q) = cond (ltb prepareFor (s - v)) (recordingAt ls q) (Prepared v)

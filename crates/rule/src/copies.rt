@@ -37,8 +37,8 @@ fn not_live(s: u32, places: [Stamped; 16], seen: Sight) -> Copy
     }
 }
 
-// 'For more than 60 seconds now starts recording at the lowest place that matches.' As in `stands`, the sum has 64 bits.
-fn prepared_from(s: u32, places: [Stamped; 16], v: u32, q: u8) -> Copy
+// 'Now starts recording at the lowest place that matches.' As in `stands`, the sum has 64 bits.
+fn kept_or_started(s: u32, places: [Stamped; 16], v: u32, q: u8) -> Copy
     ensures { λ r. ⌜ r ≡ fromPrepared s places v (Sight.Prepare q) ⌝ }
 {
     let long = (v as u64 + PREPARE_FOR) < s as u64;
@@ -108,14 +108,15 @@ fn from_waiting(s: u32, places: [Stamped; 16], b: Booking) -> Copy
     not_live(s, places, seen)
 }
 
-// 'Without a break': what waits has no second, and being prepared later counts anew.
+// 'Without a break': what waits has no second, and being prepared later counts anew. As in `from_waiting`, nothing asks whether the window
+// has closed.
 fn from_prepared(s: u32, places: [Stamped; 16], b: Booking, v: u32) -> Copy
     ensures { λ r. ⌜ r ≡ fromPrepared s places v (sightOf s places b) ⌝ }
 {
     let now = sight_of(s, places, b);
     match now {
         Sight::Nothing => Copy::Waiting, // a break
-        Sight::Prepare(q) => prepared_from(s, places, v, q),
+        Sight::Prepare(q) => kept_or_started(s, places, v, q),
         Sight::Start(q) => recording_at(places, q),
     }
 }

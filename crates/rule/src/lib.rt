@@ -42,7 +42,7 @@ pub struct Timer {
     pub copy: Copy,
 }
 
-// What a timer that is not live goes by: the lowest match with PRF 0, failing that the lowest of all, which have PRF 1.
+// What a timer that is not live goes by: the lowest match with PRF 0, failing that the lowest match, which then has PRF 1.
 pub enum Sight {
     Nothing,
     Prepare(u8),

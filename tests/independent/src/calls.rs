@@ -112,43 +112,44 @@ fn in_scene(seed: u64, scene: &mut Scene) -> Vec<Call> {
                 scene.pass(until);
             }
         }
-        match r.below(16) {
-            0 => {
-                let time = scene.time(r);
-                calls.push(Call::Wait(time));
-                scene.pass(time);
-            }
-            1 => {
-                // a wait that is cut in two
-                let (from, to) = (scene.now(), scene.time(r));
-                calls.push(Call::Wait(from + r.below(1 + to.saturating_sub(from).min(40) as u64) as u32));
-                calls.push(Call::Wait(to));
-                scene.pass(to);
-            }
-            2 => {
-                let time = scene.refused_time(r);
-                calls.push(Call::Wait(time));
-            }
-            3 | 4 => {
-                let timers = scene.timers(r);
-                let (cni, pil, year) = timers[r.below(timers.len() as u64) as usize];
-                calls.push(Call::Add(cni, pil, year));
-            }
-            5 => {
-                // the year after: what fills a slot whose window has ended
-                let (cni, pil, year) = scene.programme(r);
-                calls.push(Call::Add(cni, pil, year.wrapping_add(1)));
-            }
-            6 => calls.push(Call::Cancel(if r.once_in(3) { r.byte() % 20 } else { r.byte() % 3 })),
-            7 => calls.push(Call::Ask(r.byte() % 20)),
-            _ => {
-                let (time, tuner, mut bytes) = scene.packet(r);
-                if r.once_in(60) {
-                    bytes.resize(r.below(60) as usize, 0x15);
-                }
-                calls.push(Call::Packet(time, tuner, bytes));
-            }
-        }
+        one_more(r, scene, &mut calls);
     }
     calls
+}
+
+fn one_more(r: &mut Random, scene: &mut Scene, calls: &mut Vec<Call>) {
+    match r.below(16) {
+        0 => {
+            let time = scene.time(r);
+            calls.push(Call::Wait(time));
+            scene.pass(time);
+        }
+        1 => {
+            // a wait that is cut in two
+            let (from, to) = (scene.now(), scene.time(r));
+            calls.push(Call::Wait(from + r.below(1 + to.saturating_sub(from).min(40) as u64) as u32));
+            calls.push(Call::Wait(to));
+            scene.pass(to);
+        }
+        2 => calls.push(Call::Wait(scene.refused_time(r))),
+        3 | 4 => {
+            let timers = scene.timers(r);
+            let (cni, pil, year) = timers[r.below(timers.len() as u64) as usize];
+            calls.push(Call::Add(cni, pil, year));
+        }
+        5 => {
+            // the year after: what fills a slot whose window has ended
+            let (cni, pil, year) = scene.programme(r);
+            calls.push(Call::Add(cni, pil, year.wrapping_add(1)));
+        }
+        6 => calls.push(Call::Cancel(if r.once_in(3) { r.byte() % 20 } else { r.byte() % 3 })),
+        7 => calls.push(Call::Ask(r.byte() % 20)),
+        _ => {
+            let (time, tuner, mut bytes) = scene.packet(r);
+            if r.once_in(60) {
+                bytes.resize(r.below(60) as usize, 0x15);
+            }
+            calls.push(Call::Packet(time, tuner, bytes));
+        }
+    }
 }

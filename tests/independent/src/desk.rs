@@ -1,6 +1,6 @@
 //! The desk as the paper words it: every second is walked, or those that `Pace` says, and at every moment every timer's copy is worked
-//! out anew from the labels that stand. Nothing is kept that could be worked out, but for the window of a timer and whether anything
-//! stands.
+//! out anew from the labels that stand. Nothing is kept that could be worked out, but for the window of a timer, whether anything
+//! stands, and, for faults and for counting, what a copy has been.
 mod minute;
 
 use crate::calendar::END;

@@ -12,7 +12,7 @@ fn last_time(calls: &[Call]) -> u32 {
     calls.iter().map(time).max().unwrap_or(0)
 }
 
-/// How many timers were started after a minute.
+/// Both paces say the same; how many timers were started after a minute.
 fn same(seed: u64, calls: &[Call], pace: Pace) -> u64 {
     let (mut skipping, mut walking) = (Desk::with(Pace::Quiet, None), Desk::with(pace, None));
     let said = calls::play(&mut skipping, calls);

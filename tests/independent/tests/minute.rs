@@ -1,13 +1,13 @@
-//! What is made at random keeps timers prepared for more than a minute often, and has calls at the seconds where that turns: it is
-//! counted here on the independent desk, and where the compiled desk is compared (`tests/src/walk.rs`).
+//! What is made at random keeps timers prepared for more than a minute often, and has calls at the seconds where that turns: both are
+//! counted here on the independent desk. Where the compiled desk is compared the starts are counted again (`tests/src/walk.rs`).
 use independent::calls::{self, Machine, State};
 use independent::desk::Desk;
 use independent::{sheet, sheets};
 
-/// The first second at which a timer may be found that has been prepared for a minute.
+/// The first of the three ages that are counted.
 const MINUTE: u32 = 60;
 
-/// The independent desk, and after how many calls a timer had become prepared 60, 61 or 62 seconds before.
+/// The independent desk, and after how many accepted calls some timer had become prepared 60, 61 or 62 seconds before.
 #[derive(Default)]
 struct Watched {
     desk: Desk,
@@ -16,10 +16,8 @@ struct Watched {
 
 impl Watched {
     fn look(&mut self) {
-        for age in self.desk.ages() {
-            if let Some(after) = age.checked_sub(MINUTE).and_then(|past| self.after.get_mut(past as usize)) {
-                *after += 1;
-            }
+        for (after, age) in self.after.iter_mut().zip(MINUTE..) {
+            *after += self.desk.ages().any(|other| other == age) as u64;
         }
     }
 }
@@ -27,12 +25,16 @@ impl Watched {
 impl Machine for Watched {
     fn packet(&mut self, time: u32, tuner: u8, bytes: &[u8]) -> u8 {
         let answer = self.desk.packet(time, tuner, bytes);
-        self.look();
+        if answer == 0 {
+            self.look();
+        }
         answer
     }
     fn wait(&mut self, time: u32) -> Result<u32, u8> {
         let walked = self.desk.wait(time);
-        self.look();
+        if walked.is_ok() {
+            self.look();
+        }
         walked
     }
     fn add(&mut self, cni: u16, pil: u32, year: u8) -> Result<u8, u8> {

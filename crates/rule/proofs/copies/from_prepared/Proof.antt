@@ -19,7 +19,7 @@ returns-2 c =
     let v = n .before .before in
     let a = v .before .args in
     let seen : sightOf (a .s) (a .places) (a .b) ≡ Sight.Prepare (n .now .given .0 .0) = sym (v .sight-of .ensures) ∙ n .now .given .1 in
-    rw seen (c .prepared-from .ensures)
+    rw seen (c .kept-or-started .ensures)
 
 returns-3 : tie.Need-returns-3
 returns-3 c = let b = c .before .before in rw (← b .before .before .sight-of .ensures, b .now2 .given .1) (c .recording-at .ensures)

@@ -6,8 +6,8 @@ use lib.Dec.{ltb}
 use Rattle.rule.specs.Rule.{prepareFor}
 use Rattle.rule.proofs.Ages.{above}
 use borrow.Author.Needs.{needs}
-use Rattle.rule.proofs.copies.prepared_from.Statement.{statement}
-use Rattle.rule.proofs.copies.prepared_from.Tie as tie
+use Rattle.rule.proofs.copies.kept_or_started.Statement.{statement}
+use Rattle.rule.proofs.copies.kept_or_started.Tie as tie
 
 add-long : tie.Need-add-long
 add-long c = search needs
@@ -27,5 +27,5 @@ returns-2 c =
     let short : ltb (a .v + prepareFor) (a .s) ≡ false = c .if1 .left in
     rw (← above (a .s) (a .v) prepareFor, short) refl
 
-pub prepared-from-spec : {M : Type 1} → statement M
-prepared-from-spec = tie.close (tie.spec add-long recording-at-requires returns returns-2)
+pub kept-or-started-spec : {M : Type 1} → statement M
+kept-or-started-spec = tie.close (tie.spec add-long recording-at-requires returns returns-2)
