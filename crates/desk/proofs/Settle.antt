@@ -8,7 +8,7 @@ use borrow.Author.Tests.{lt-ltb, le-ltb, not-true}
 use lib.Dec.{ltb}
 use lib.ListN.{getD}
 use Rattle.answer.proofs.Cases.{both-true}
-use Rattle.rule.specs.Rule.{noLabel, endedAt, matches, Found, nowhere, at, lowestFrom, lowest, sightBy, sightOf, recordingAt, notLive, prepareFor, fromPrepared, movesOr, fromRecording, runFor, fromRunningOn, goesOn, held, nextCopy, nextTimer}
+use Rattle.rule.specs.Rule.{noLabel, endedAt, matches, Found, nowhere, at, lowestFrom, lowest, sightOf, recordingAt, notLive, prepareFor, fromPrepared, movesOr, fromRecording, runFor, fromRunningOn, goesOn, held, nextCopy, nextTimer}
 use Rattle.rule.specs.declared.Stamped.{Stamped}
 use Rattle.rule.specs.declared.Booking.{Booking}
 use Rattle.rule.specs.declared.Copy.{Copy}
@@ -16,6 +16,7 @@ use Rattle.rule.specs.declared.Copy.the-variants.{Free, Waiting, Prepared, Reco
 use Rattle.rule.specs.declared.Timer.{Timer}
 use Rattle.rule.specs.declared.Sight.{Sight}
 use Rattle.rule.specs.declared.Sight.the-variants.{Nothing, Prepare, Start}
+use Rattle.rule.proofs.Sights.{seen-is}
 use Rattle.rule.proofs.Steps.{free-copy}
 use Rattle.desk.specs.Moments.{moment, clockedAt, nextSecond, walk}
 use Rattle.desk.specs.declared.Desk.{Desk}
@@ -47,29 +48,14 @@ module _ (s : ℕ) (ls : List Stamped) (b : Booking) where
   Starts q = (matches s b (getD ls q noLabel) ≡ true) × (getD ls q noLabel .prf ≡ false)
 
   pub start-matches : (q : ℕ) → sightOf s ls b ≡ Start q → Starts q
-  unfolding sightOf
-  start-matches q e = go (lowest starts ls) (lowest (matches s b) ls) refl e
-    where
-      starts : Stamped → Bool
-      starts l = matches s b l && not (l .prf)
-
-      go : (f g : Found) → lowest starts ls ≡ f → sightBy f g ≡ Start q → Starts q
-      go (at r) g d h =
-          let z : r ≡ q = cc in
-          let k = both-true (matches s b (getD ls r noLabel)) (not (getD ls r noLabel .prf)) (lowest-passes starts noLabel ls r d) in
-          rw (← z) (k .0, not-true (getD ls r noLabel .prf) (k .1))
-      go nowhere (at r) d h = (cc, cc)
-      go nowhere nowhere d h = (cc, cc)
+  start-matches q e =
+      let l = getD ls q noLabel in
+      let k = both-true (matches s b l) (not (l .prf)) (lowest-passes (λ x. matches s b x && not (x .prf)) noLabel ls q (seen-is s ls b (Start q) e)) in
+      (k .0, not-true (l .prf) (k .1))
 
   -- a place seen where none starts a copy matches
   pub prepare-matches : (q : ℕ) → sightOf s ls b ≡ Prepare q → matches s b (getD ls q noLabel) ≡ true
-  unfolding sightOf
-  prepare-matches q e = go (lowest (λ l. matches s b l && not (l .prf)) ls) (lowest (matches s b) ls) refl e
-    where
-      go : (f g : Found) → lowest (matches s b) ls ≡ g → sightBy f g ≡ Prepare q → matches s b (getD ls q noLabel) ≡ true
-      go (at r) g d h = cc
-      go nowhere (at r) d h = let z : r ≡ q = cc in rw (← z) (lowest-passes (matches s b) noLabel ls r d)
-      go nowhere nowhere d h = cc
+  prepare-matches q e = lowest-passes (matches s b) noLabel ls q (seen-is s ls b (Prepare q) e .1)
 
   abbrev Stays : Copy → Type 0
   Stays c = goesOn s ls b c ≡ c

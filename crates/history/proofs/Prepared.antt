@@ -6,7 +6,6 @@ use mathlib.Core.List.{List, [], _∷_, _++_}
 use mathlib.Core.Logic.{inl, inr}
 use native.Mathlib.Omega.{arith}
 use borrow.Author.Tests.{lt-ltb, le-ltb}
-use Rattle.answer.proofs.Cases.{by-test}
 use Rattle.rule.specs.Rule.{endedAt, recordingAt, prepareFor, fromPrepared, held, nextCopy, nextTimer}
 use Rattle.rule.specs.declared.Stamped.{Stamped}
 use Rattle.rule.specs.declared.Booking.{Booking}
@@ -19,7 +18,7 @@ use Rattle.sixteen.specs.Sixteen.{noTimer, active}
 use Rattle.desk.specs.declared.Desk.{Desk}
 use Rattle.desk.specs.Moments.{moment, clockedAt, nextSecond, walk, passTo}
 use Rattle.desk.specs.Calls.{withLabel, withTimer, timerAt}
-use Rattle.desk.proofs.Settle.{Settled, nextSecond-settled, nextCopy-ended, walk-keeps}
+use Rattle.desk.proofs.Settle.{Settled, nextSecond-settled, walk-keeps}
 use Rattle.desk.proofs.Jump.{timerAt-moment, walk-clock}
 use Rattle.history.specs.Run.{Call, cancel, outcome, left}
 use Rattle.history.specs.Prepared.{secondsOf, momentsIn, OnlyPrf1, RecordsFrom, PreparedThenRecords, preparedSince}
@@ -30,6 +29,13 @@ use Rattle.history.proofs.Next.{next-is, next-prepared-since}
 use Rattle.history.proofs.Sees.{sees-prepare, prepare-only}
 use Rattle.history.proofs.Steps.{Step, same, hears, waits, passes, adds, cancels, step, other-slot, room-apart}
 use Rattle.history.proofs.Keeps.{keeps, copy-moment}
+
+-- ── what is prepared ───────────────────────────────────────────────────────────────────────────────────────────────
+pub since : (s v : ℕ) (ls : List Stamped) (b : Booking) (c : Copy) → nextCopy s ls b c ≡ Prepared v → v ≡ preparedSince s c
+since s v ls b c e = next-prepared-since s ls b (next-is s ls b c) v e .0
+
+pub prepares : (s v : ℕ) (ls : List Stamped) (b : Booking) (c : Copy) → nextCopy s ls b c ≡ Prepared v → OnlyPrf1 s ls b
+prepares s v ls b c e = let g = next-prepared-since s ls b (next-is s ls b c) v e .1 in prepare-only s ls b (g .0) (g .1)
 
 -- ── from one moment to the next ────────────────────────────────────────────────────────────────────────────────────
 module _ (slot : ℕ) where
@@ -131,13 +137,11 @@ module _ (slot : ℕ) (b : Booking) where
 prepared-lasts : (d : Desk) → Settled d → (slot v : ℕ) → timerAt d slot .copy ≡ Prepared v → endedAt (d .clock) (timerAt d slot .booking) ≡ false
 unfolding nextTimer
 prepared-lasts d h slot v e =
-    let b = timerAt d slot .booking in
-    by-test (endedAt (d .clock) b)
-    (λ over.
-    let same : timerAt d slot .copy ≡ nextCopy (d .clock) (d .places) b (Prepared v) = ap (λ x. timerAt x slot .copy) (sym h) ∙ ap (λ t. t .copy) (timerAt-moment d slot) ∙ rw e in
-    let now : Prepared v ≡ Waiting = sym e ∙ same ∙ nextCopy-ended (d .clock) (d .places) b over (Prepared v) refl in
-    cc)
-    (λ k. k)
+    let t = timerAt d slot in
+    let now : nextCopy (d .clock) (d .places) (t .booking) (t .copy) ≡ Prepared v =
+    ap (λ x. x .copy) (sym (timerAt-moment d slot)) ∙ ap (λ x. timerAt x slot .copy) h ∙ e in
+    let only = prepares (d .clock) v (d .places) (t .booking) (t .copy) now in
+    open-not-ended (t .booking) (d .clock) (matches-open (t .booking) (d .clock) _ (only .matching))
 
 pub after-60 : (d : Desk) → Sound d → (slot v : ℕ) (later : List Call) → timerAt d slot .copy ≡ Prepared v →
     Each (λ c. c ≡ cancel slot → ⊥) later → PreparedThenRecords slot (timerAt d slot .booking) v (momentsIn later d)
@@ -147,13 +151,7 @@ after-60 d h slot v later e n =
     (record { timer = ap (λ c. record { booking = b; copy = c }) e; lasts = prepared-lasts d (h .settled) slot v e; held-now = refl })
     (rw e at (h .prepared slot)) (chain-calls slot later d h n)
 
--- ── what prepares, and a break ─────────────────────────────────────────────────────────────────────────────────────
-pub since : (s v : ℕ) (ls : List Stamped) (b : Booking) (c : Copy) → nextCopy s ls b c ≡ Prepared v → v ≡ preparedSince s c
-since s v ls b c e = next-prepared-since s ls b (next-is s ls b c) v e .0
-
-pub prepares : (s v : ℕ) (ls : List Stamped) (b : Booking) (c : Copy) → nextCopy s ls b c ≡ Prepared v → OnlyPrf1 s ls b
-prepares s v ls b c e = let g = next-prepared-since s ls b (next-is s ls b c) v e .1 in prepare-only s ls b (g .0) (g .1)
-
+-- ── a break ────────────────────────────────────────────────────────────────────────────────────────────────────────
 module _ (u slot : ℕ) where
   -- this slot's copy is not prepared since before u
   abbrev Anew : Copy → Type 0

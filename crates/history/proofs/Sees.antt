@@ -6,11 +6,12 @@ use mathlib.Core.List.{List, [], _∷_}
 use native.Mathlib.Omega.{arith}
 use lib.ListN.{getD}
 use Rattle.answer.proofs.Cases.{by-test}
-use Rattle.rule.specs.Rule.{noLabel, stands, matches, Found, nowhere, at, lowestFrom, lowest, sightBy, sightOf}
+use Rattle.rule.specs.Rule.{noLabel, stands, matches, nowhere, at, lowestFrom, sightOf}
 use Rattle.rule.specs.declared.Stamped.{Stamped}
 use Rattle.rule.specs.declared.Booking.{Booking}
 use Rattle.rule.specs.declared.Sight.{Sight}
 use Rattle.rule.specs.declared.Sight.the-variants.{Nothing, Prepare, Start}
+use Rattle.rule.proofs.Sights.{seen-is}
 use Rattle.desk.proofs.Settle.{start-matches, prepare-matches}
 use Rattle.desk.proofs.Jump.{None}
 use Rattle.history.specs.Prepared.{OnlyPrf1, LowestMatch}
@@ -48,25 +49,8 @@ module _ (s : ℕ) (ls : List Stamped) (b : Booking) where
   pub no-start : NoneStarts s ls b → (q : ℕ) → sightOf s ls b ≡ Start q → ⊥
   no-start none q e = let m = start-matches s ls b q e in true≢false (sym (none q (m .0)) ∙ m .1)
 
-  nothing-matches : sightOf s ls b ≡ Nothing → None (matches s b) noLabel ls
-  unfolding sightOf matches stands
-  nothing-matches e = go (lowest (λ l. matches s b l && not (l .prf)) ls) (lowest (matches s b) ls) refl e
-    where
-      go : (f g : Found) → lowest (matches s b) ls ≡ g → sightBy f g ≡ Nothing → None (matches s b) noLabel ls
-      go (at r) g d h p = cc
-      go nowhere (at r) d h p = cc
-      go nowhere nowhere d h p = nowhere-none (matches s b) noLabel refl 0 ls d p
-
-  lowest-seen : (q : ℕ) → sightOf s ls b ≡ Prepare q → lowest (matches s b) ls ≡ at q
-  unfolding sightOf
-  lowest-seen q e = go (lowest (λ l. matches s b l && not (l .prf)) ls) (lowest (matches s b) ls) e
-    where
-      go : (f g : Found) → sightBy f g ≡ Prepare q → g ≡ at q
-      go (at r) g h = cc
-      go nowhere (at r) h = let z : r ≡ q = cc in rw z
-      go nowhere nowhere h = cc
-
   pub sees-prepare : OnlyPrf1 s ls b → (q : ℕ) × (sightOf s ls b ≡ Prepare q) × LowestMatch s ls b q
+  unfolding matches stands
   sees-prepare h = go (sightOf s ls b) refl
     where
       go : (g : Sight) → sightOf s ls b ≡ g → (q : ℕ) × (sightOf s ls b ≡ Prepare q) × LowestMatch s ls b q
@@ -76,24 +60,18 @@ module _ (s : ℕ) (ls : List Stamped) (b : Booking) where
         e,
         record {
           matching = prepare-matches s ls b q e;
-          lower-not = λ p l. lowest-below (matches s b) noLabel 0 q ls (lowest-seen q e) p (omega arith);
+          lower-not = λ p l. lowest-below (matches s b) noLabel 0 q ls (seen-is s ls b (Prepare q) e .1) p (omega arith);
         },
       )
-      go Nothing e = absurd (true≢false (sym (h .matching) ∙ nothing-matches e (h .place)))
+      go Nothing e =
+          let none : None (matches s b) noLabel ls = nowhere-none (matches s b) noLabel refl 0 ls (seen-is s ls b Nothing e .1) in
+          absurd (true≢false (sym (h .matching) ∙ none (h .place)))
 
   prf-1 : (l : Stamped) → (matches s b l && not (l .prf)) ≡ false → matches s b l ≡ true → l .prf ≡ true
   prf-1 l n m = by-test (l .prf) (λ e. e) (λ e. absurd (true≢false (rw (m, e) at n)))
 
   pub prepare-only : (q : ℕ) → sightOf s ls b ≡ Prepare q → OnlyPrf1 s ls b
-  unfolding sightOf matches stands
-  prepare-only q e = record { place = q; matching = prepare-matches s ls b q e; only = λ r. prf-1 (getD ls r noLabel) (none r) }
-    where
-      start : Stamped → Bool
-      start l = matches s b l && not (l .prf)
-
-      go : (f g : Found) → sightBy f g ≡ Prepare q → f ≡ nowhere
-      go (at r) g h = cc
-      go nowhere g h = refl
-
-      none : None start noLabel ls
-      none = nowhere-none start noLabel refl 0 ls (go (lowest start ls) (lowest (matches s b) ls) e)
+  unfolding matches stands
+  prepare-only q e =
+      let none = nowhere-none (λ l. matches s b l && not (l .prf)) noLabel refl 0 ls (seen-is s ls b (Prepare q) e .0) in
+      record { place = q; matching = prepare-matches s ls b q e; only = λ r. prf-1 (getD ls r noLabel) (none r) }

@@ -8,12 +8,12 @@ use lib.Dec.{leb, eqb}
 use lib.ListN.{length, getD, drop}
 use native.Mathlib.Nat.{zero-add}
 use Rattle.answer.proofs.Cases.{by-test}
-use Rattle.rule.specs.Rule.{noLabel, stands, Found, nowhere, at, lowestFrom, sightBy, openAt, matches, sightOf}
+use Rattle.rule.specs.Rule.{noLabel, stands, Found, nowhere, at, lowestFrom, lowest, sightBy, openAt, matches, sightOf}
 use Rattle.rule.specs.Look.{named, firstWith, lookOf}
 use Rattle.rule.specs.declared.Stamped.{Stamped}
 use Rattle.rule.specs.declared.Booking.{Booking}
 use Rattle.rule.specs.declared.Sight.{Sight}
-use Rattle.rule.specs.declared.Sight.the-variants.{Nothing, Start}
+use Rattle.rule.specs.declared.Sight.the-variants.{Nothing, Prepare, Start}
 use Rattle.rule.proofs.Search.{lowest-hit, lowest-miss, lowest-none, lowest-past}
 
 pub match-named : (s : ℕ) (b : Booking) (l : Stamped) → matches s b l ≡ (named s b l && openAt s b)
@@ -106,3 +106,20 @@ module _ (s : ℕ) (ls : List Stamped) (b : Booking) where
   -- where no place has the PIL nothing is seen
   pub sight-without : length ls ≤ firstWith ls (b .pil) → sightOf s ls b ≡ Nothing
   sight-without h = sight-nothing (seen-first s b ls ∙ seen-none s b ls (firstWith ls (b .pil)) 16 h)
+
+-- ── what was found, by what is seen ────────────────────────────────────────────────────────────────────────────────
+-- of a search for PRF 0 and one for any match
+abbrev Seen : Found → Found → Sight → Type 0
+Seen f g (Start q) = f ≡ at q
+Seen f g (Prepare q) = (f ≡ nowhere) × (g ≡ at q)
+Seen f g Nothing = (f ≡ nowhere) × (g ≡ nowhere)
+
+seen-by : (f g : Found) → Seen f g (sightBy f g)
+seen-by (at q) g = refl
+seen-by nowhere (at q) = (refl, refl)
+seen-by nowhere nowhere = (refl, refl)
+
+pub seen-is : (s : ℕ) (ls : List Stamped) (b : Booking) (g : Sight) → sightOf s ls b ≡ g →
+    Seen (lowest (λ l. matches s b l && not (l .prf)) ls) (lowest (matches s b) ls) g
+unfolding sightOf
+seen-is s ls b g e = rw e at (seen-by (lowest (λ l. matches s b l && not (l .prf)) ls) (lowest (matches s b) ls))
