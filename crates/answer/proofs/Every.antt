@@ -6,7 +6,7 @@ use mathlib.Core.List.{List, [], _∷_, _++_, map}
 use native.Mathlib.Omega.{arith}
 use borrow.Author.Tests.{eqb-true, eq-eqb}
 use lib.Dec.{eqb}
-use Rattle.answer.specs.Answer.{refused, given, Row, firstOf}
+use Rattle.answer.specs.Answer.{Answer, refused, given, Row, firstOf}
 use Rattle.answer.specs.Lists.{some, member}
 use Rattle.answer.proofs.Cases.{both-true, both-false}
 
@@ -106,3 +106,13 @@ accepted a b (row ∷ rows) e = go (row .0) refl e (accepted a b rows)
         ((row .0 ≡ false) × Passed rows) × (a ≡ b)
     go true q h k = absurd (let z : _≡_ {A = ℕ} 0 1 = cc in omega arith)
     go false q h k = let r = k h in ((q, r .0), r .1)
+
+-- what holds of each row's refusal, and where no row applies of what is given, holds of the answer
+pub first-holds : {A : Type 0} (P : Answer A → Type 0) (a : A) (rows : List Row) →
+    All (λ row. P (refused (row .1))) rows → (Passed rows → P (given a)) → P (firstOf rows a)
+first-holds P a [] h g = g tt
+first-holds P a (row ∷ rows) h g = go (row .0) refl (λ e. first-holds P a rows (h .1) (λ none. g (e, none)))
+  where
+    go : (b : Bool) → row .0 ≡ b → (row .0 ≡ false → P (firstOf rows a)) → P (cond b (refused (row .1)) (firstOf rows a))
+    go true e next = h .0
+    go false e next = next e

@@ -2,4 +2,5 @@ pub mod Cases
 pub mod All
 pub mod Every
 pub mod Answers
+pub mod Texts
 pub mod Proved

@@ -1,8 +1,6 @@
-pub mod Texts
+pub mod Machine
 pub mod Rooms
 pub mod Numbers
 pub mod Feeding
-pub mod Machine
-pub mod Longest
 pub mod Small
 pub mod Proved

@@ -1,43 +1,21 @@
--- The numbers of an item, by the places of its bytes.
-use Prim.Native.Nat.{ℕ, zero, suc, _+_, _≤_}
-use mathlib.Core.Path.{_≡_, refl, ap, _∙_}
-use mathlib.Core.List.{List, [], _∷_}
+-- A timer's numbers, and a packet's, by the places of their bytes.
+use Prim.Native.Nat.{ℕ}
+use mathlib.Core.Path.{_≡_}
+use mathlib.Core.List.{List}
 use native.Mathlib.Omega.{arith}
-use native.Mathlib.Nat.{zero-add}
+use Prim.Native.Nat.{_≤_}
 use lib.ListN.{length, take, drop, getD, length-drop}
-use lib.Seq.{drop-cons, take-all}
+use lib.Seq.{take-all}
+use Rattle.answer.specs.Bytes.{numberOf}
 use Rattle.desk.specs.declared.Desk.{Desk}
 use Rattle.desk.specs.Calls.{packetOf}
-use Rattle.answer.specs.Bytes.{numberOf}
+use Rattle.items.proofs.Numbers.{places, first, number}
 use Rattle.sheet.specs.Sheet.{bookingIn, packetIn}
 
--- n bytes from place k on, one by one
-abbrev pub places : ℕ → ℕ → List ℕ → List ℕ
-places k zero l = []
-places k (suc n) l = getD l k 0 ∷ places (suc k) n l
-
-part : (n k : ℕ) (l : List ℕ) → k + n ≤ length l → take n (drop k l) ≡ places k n l
-part zero k l h = refl
-part (suc n) k l h =
-    let s : suc k + n ≤ length l = omega arith in
-    rw (drop-cons l k 0 (omega arith)) (ap (λ (r : List ℕ). getD l k 0 ∷ r) (part n (suc k) l s))
-
-first : (n : ℕ) (l : List ℕ) → n ≤ length l → take n l ≡ places 0 n l
-first n l h = part n 0 l (omega arith)
-
--- n bytes from the first on, as one number
-pub number : (n : ℕ) (l : List ℕ) → n ≤ length l → numberOf (take n l) ≡ numberOf (places 0 n l)
-number n l h = ap numberOf (first n l h)
-
-pub one : (l : List ℕ) → 1 ≤ length l → numberOf (take 1 l) ≡ getD l 0 0
-one l h = number 1 l h ∙ zero-add (getD l 0 0)
-
--- a timer's numbers
 pub booking : (l : List ℕ) (c p : ℕ) → 6 ≤ length l → c ≡ numberOf (places 0 2 l) → p ≡ numberOf (places 2 3 l) →
     record { cni = c; pil = p; year = getD l 5 0 } ≡ bookingIn (take 6 l)
 booking l c p h e f = rw (first 6 l h, e, f)
 
--- a packet's numbers, and its bytes
 pub packet-bytes : (l : List ℕ) (t : ℕ) (d : Desk) → length l ≡ 47 → t ≡ numberOf (places 0 4 l) →
     packetOf (getD l 4 0) t (take 42 (drop 5 l)) d ≡ packetIn (take 47 l) d
 packet-bytes l t d h e =

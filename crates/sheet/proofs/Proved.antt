@@ -2,17 +2,16 @@
 use mathlib.Core.Path.{_≡_}
 use native.Mathlib.Omega.{arith}
 use Rattle.answer.proofs.Answers.{equation, paired}
+use Rattle.items.specs.Pieces.{leftOver}
 use Rattle.sheet.specs.Laws.{Laws}
-use Rattle.sheet.specs.Pieces.{blank, leftOver, fedBy, outAfter, closedBy, outClosed}
+use Rattle.sheet.specs.Pieces.{blank, fedBy, outAfter, closedBy, outClosed}
 use Rattle.sheet.proofs.Machine.{pieces, settled}
-use Rattle.sheet.proofs.Longest.{longest-sheet}
 use Rattle.sheet.proofs.Small.{slot-inside, small-refusal, small-answer, live-inside, timers-kept}
 
 pub laws : Laws
 laws = record {
   pieces = pieces;
   settled = settled;
-  longest-sheet = longest-sheet;
   small-slot = λ b d t l e. omega (arith, slot-inside b d t e);
   small-refusal = small-refusal;
   small-answer = small-answer;
@@ -24,7 +23,7 @@ laws = record {
       paired (λ r. (r .0 ≡ fedBy piece out at s) × (r .1 ≡ outAfter piece out at s)) (λ p. p ≡ piece)
       (paired (λ r. r ≡ fedBy piece out at s) (λ q. q ≡ outAfter piece out at s) (equation (fedBy piece out at s)) (equation (outAfter piece out at s)))
       (equation piece);
-  left-over-unique = λ s. equation (leftOver (s .stage));
+  left-over-unique = λ s. equation (leftOver (s .split .stage));
   close-unique =
       λ s ended out at.
       paired (λ r. r ≡ closedBy ended out at s) (λ q. q ≡ outClosed ended out at s)

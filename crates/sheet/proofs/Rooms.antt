@@ -1,90 +1,101 @@
 -- How long what is printed is: no byte prints more than `longest`, so a piece that finds room is taken and stays within its share.
-use Prim.Native.Nat.{ℕ, _+_, _-_, _*_, _/_, _≤_}
+use Prim.Native.Nat.{ℕ, _+_, _-_, _*_, _/_, _≤_, _<_}
 use mathlib.Core.Path.{_≡_, refl, sym}
 use mathlib.Core.Bool.{Bool, true, false, cond}
-use mathlib.Core.List.{List, [], _∷_, _++_}
-use borrow.Author.Tests.{le-leb, lt-leb, leb-true, leb-false}
+use mathlib.Core.List.{List, [], _∷_, _++_, append-nil}
+use borrow.Author.Tests.{le-leb, lt-leb, leb-true, leb-false, lt-ltb, le-ltb}
 use native.Mathlib.Omega.{arith}
 use lib.Dec.{ltb, leb}
-use lib.ListN.{length, length-append}
+use lib.ListN.{length, take, length-append}
 use Rattle.answer.specs.Answer.{Answer, refused, given, number}
+use Rattle.answer.specs.Text.{space, lineFeed, digit, decimalIn}
+use Rattle.answer.proofs.Texts.{decimal-short}
 use Rattle.desk.specs.declared.Desk.{Desk}
 use Rattle.desk.specs.Calls.{addOf}
 use Rattle.desk.specs.Moments.{liveCount}
 use Rattle.desk.specs.Numbers.{saidBy}
-use Rattle.sheet.specs.declared.Stage.{Stage}
-use Rattle.sheet.specs.declared.Stage.the-variants.{TimerCount, Timers, PacketCount, Packets, Played, LeftOver}
+use Rattle.items.specs.declared.Split.{Split}
+use Rattle.items.specs.declared.Found.{Found}
+use Rattle.items.specs.declared.Found.the-variants.{Nothing, Timer, Packet}
+use Rattle.items.specs.Items.{Item, timer, packet}
+use Rattle.items.specs.Pieces.{foundAt, itemsFound, holding, isWhole, afterByte, byteItems, pieceItems, wholeAt}
 use Rattle.sheet.specs.declared.Sheet.{Sheet}
-use Rattle.sheet.specs.Sheet.{digit, decimal, space, lineFeed, timerLine, packetLine, bookingIn, packetIn, timerTold, packetTold, packetLeft}
-use Rattle.sheet.specs.Pieces.{need, told, holding, isWhole, itemOf, toldBy, afterByte, byteTold, pieceTold, closing, endTold, longest, fedBy, closedBy}
+use Rattle.sheet.specs.Sheet.{decimal, timerLine, packetLine, bookingIn, packetIn, timerTold, packetTold, packetLeft, itemTold, linesOf, deskLeft, lastLine}
+use Rattle.sheet.specs.Pieces.{pieceTold, endTold, longest, fedBy, closedBy}
+use Rattle.sheet.proofs.Machine.{lines-more}
 
 -- a number has one digit or two
-pub decimal-short : (n : ℕ) → length (decimal n) ≤ 2
+pub two-digits : (n : ℕ) → length (decimal n) ≤ 2
 unfolding decimal
-decimal-short n = go (ltb n 10)
+two-digits n = decimal-short 2 n
+
+pub below-ten : (n : ℕ) → n < 10 → decimal n ≡ digit n ∷ []
+unfolding decimal decimalIn
+below-ten n h = rw (lt-ltb n 10 h)
+
+pub from-ten : (n : ℕ) → 10 ≤ n → decimal n ≡ digit (n / 10) ∷ digit n ∷ []
+unfolding decimal decimalIn
+from-ten n h = rw (le-ltb n 10 h) (go (ltb (n / 10) 10))
   where
-    go : (t : Bool) → length (cond t (digit n ∷ []) (digit (n / 10) ∷ digit n ∷ [])) ≤ 2
-    go true = omega arith
-    go false = omega arith
+    go : (t : Bool) → cond t (digit (n / 10) ∷ []) (digit (n / 10) ∷ []) ++ (digit n ∷ []) ≡ digit (n / 10) ∷ digit n ∷ []
+    go true = refl
+    go false = refl
 
 -- a number and the line's end
 last-short : (n : ℕ) → length (decimal n ++ (lineFeed ∷ [])) ≤ 3
-last-short n = omega (arith, decimal-short n, length-append (decimal n) (lineFeed ∷ []))
+last-short n = omega (arith, two-digits n, length-append (decimal n) (lineFeed ∷ []))
 
 timer-short : (a : Answer ℕ) → length (timerLine a) ≤ longest
 timer-short (given n) = omega (arith, last-short n)
 timer-short (refused n) = omega (arith, last-short n)
 
 packet-short : (a n : ℕ) → length (packetLine a n) ≤ longest
-packet-short a n = omega (arith, decimal-short a, last-short n, length-append (decimal a) (space ∷ decimal n ++ (lineFeed ∷ [])))
+packet-short a n = omega (arith, two-digits a, last-short n, length-append (decimal a) (space ∷ decimal n ++ (lineFeed ∷ [])))
 
-told-short : (st : Stage) (i : List ℕ) (d : Desk) → length (told st i d) ≤ longest
+item-short : (i : Item) (d : Desk) → length (itemTold i d) ≤ longest
 unfolding timerTold packetTold
-told-short TimerCount i d = omega arith
-told-short (Timers n) i d = timer-short (saidBy (addOf (bookingIn i) d))
-told-short PacketCount i d = omega arith
-told-short (Packets n) i d = packet-short (number (packetIn i d)) (liveCount (packetLeft i d))
-told-short Played i d = omega arith
-told-short LeftOver i d = omega arith
+item-short (timer i) d = timer-short (saidBy (addOf (bookingIn i) d))
+item-short (packet i) d = packet-short (number (packetIn i d)) (liveCount (packetLeft i d))
 
-pub byte-short : (b : ℕ) (s : Sheet) → length (byteTold b s) ≤ longest
-unfolding byteTold toldBy
-byte-short b s = go (isWhole t)
+-- what is found with some bytes prints one line at most
+pub found-short : (f : Found) (held : List ℕ) (d : Desk) → length (linesOf (itemsFound f held) d) ≤ longest
+unfolding linesOf
+found-short Nothing held d = omega arith
+found-short Timer held d = rw (append-nil (itemTold (timer (take 6 held)) d)) (item-short (timer (take 6 held)) d)
+found-short Packet held d = rw (append-nil (itemTold (packet (take 47 held)) d)) (item-short (packet (take 47 held)) d)
+
+-- so does one byte
+byte-short : (b : ℕ) (s : Split) (d : Desk) → length (linesOf (byteItems b s) d) ≤ longest
+unfolding byteItems linesOf
+byte-short b s d = go (isWhole t)
   where
-    t : Sheet
+    t : Split
     t = holding b s
 
-    go : (w : Bool) → length (cond w (toldBy t) []) ≤ longest
-    go true = told-short (t .stage) (itemOf t) (t .desk)
+    go : (w : Bool) → length (linesOf (cond w (itemsFound (foundAt (t .stage)) (t .held)) []) d) ≤ longest
+    go true = found-short (foundAt (t .stage)) (t .held) d
     go false = omega arith
+
+items-short : (p : List ℕ) (s : Split) (d : Desk) → length (linesOf (pieceItems p s) d) ≤ longest * length p
+unfolding pieceItems linesOf
+items-short [] s d = omega arith
+items-short (b ∷ bs) s d =
+    let is = byteItems b s in
+    let js = pieceItems bs (afterByte b s) in
+    let e = deskLeft is d in
+    rw (lines-more is js d) (omega (arith, byte-short b s d, items-short bs (afterByte b s) e, length-append (linesOf is d) (linesOf js e)))
 
 piece-short : (p : List ℕ) (s : Sheet) → length (pieceTold p s) ≤ longest * length p
 unfolding pieceTold
-piece-short [] s = omega arith
-piece-short (b ∷ bs) s =
-    omega (arith, byte-short b s, piece-short bs (afterByte b s), length-append (byteTold b s) (pieceTold bs (afterByte b s)))
-
-closing-short : (st : Stage) (d : Desk) → length (closing st d) ≤ longest
-closing-short TimerCount d = omega (arith, last-short (liveCount d))
-closing-short (Timers n) d = omega (arith, last-short (liveCount d))
-closing-short PacketCount d = omega (arith, last-short (liveCount d))
-closing-short (Packets n) d = omega (arith, last-short (liveCount d))
-closing-short Played d = omega (arith, last-short (liveCount d))
-closing-short LeftOver d = omega (arith, last-short (liveCount d))
+piece-short p s = items-short p (s .split) (s .desk)
 
 end-short : (ended : Bool) (s : Sheet) → length (endTold ended s) ≤ longest
 unfolding endTold
-end-short true s = closing-short (s .stage) (s .desk)
-end-short false s = omega (arith, last-short (liveCount (s .desk)))
-
--- no item has more bytes than are held
-pub need-small : (st : Stage) → need st ≤ 47
-need-small TimerCount = omega arith
-need-small (Timers n) = omega arith
-need-small PacketCount = omega arith
-need-small (Packets n) = omega arith
-need-small Played = omega arith
-need-small LeftOver = omega arith
+end-short ended s = go (wholeAt ended (s .split))
+  where
+    go : (w : Bool) → length (lastLine w (s .desk)) ≤ longest
+    go true = omega (arith, last-short (liveCount (s .desk)))
+    go false = omega (arith, last-short (liveCount (s .desk)))
 
 -- room for n times eight, tested so that nothing wraps
 pub room-test : (room at n : ℕ) → at ≤ room → leb n ((room - at) / 8) ≡ leb (at + longest * n) room

@@ -7,6 +7,7 @@ use native.Mathlib.Omega.{arith}
 use lib.Dec.{ltb}
 use lib.ListN.{length, take, drop, getD, length-map, length-set}
 use Rattle.answer.specs.Answer.{Answer, refused, given, Row, firstOf, andThen, number, after}
+use Rattle.answer.proofs.Every.{first-holds}
 use Rattle.label.specs.declared.Label.{Label}
 use Rattle.label.specs.Packet.{readerRows, readingOf, labelIn}
 use Rattle.label.specs.Pil.{twentyBits}
@@ -23,21 +24,6 @@ use Rattle.desk.specs.Moments.{moment, clockedAt, nextSecond, walk, passTo, liv
 use Rattle.desk.specs.Numbers.{leftBy}
 use Rattle.answer.specs.Bytes.{numberOf}
 use Rattle.sheet.specs.Sheet.{bookingIn, timerLeft, packetLeft}
-
--- ── the first row that applies ─────────────────────────────────────────────────────────────────────────────────────
-abbrev Each : (Row → Type 0) → List Row → Type 0
-Each P [] = Unit {0}
-Each P (row ∷ rows) = P row × Each P rows
-
--- what holds of each row's refusal, and where no row applies of what is given, holds of the answer
-first-holds : {A : Type 0} (P : Answer A → Type 0) (a : A) (rows : List Row) →
-    Each (λ row. P (refused (row .1))) rows → (Each (λ row. row .0 ≡ false) rows → P (given a)) → P (firstOf rows a)
-first-holds P a [] h g = g tt
-first-holds P a (row ∷ rows) h g = go (row .0) refl (λ e. first-holds P a rows (h .1) (λ none. g (e, none)))
-  where
-    go : (b : Bool) → row .0 ≡ b → (row .0 ≡ false → P (firstOf rows a)) → P (cond b (refused (row .1)) (firstOf rows a))
-    go true e next = h .0
-    go false e next = next e
 
 -- ── slots ──────────────────────────────────────────────────────────────────────────────────────────────────────────
 -- what is found is in the list

@@ -1,4 +1,3 @@
 pub mod Sheet
 pub mod Pieces
-pub mod Stores
 pub mod Laws

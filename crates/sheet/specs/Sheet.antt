@@ -1,11 +1,12 @@
 -- What a sheet prints (document 01, 'The sheet program'): one definition over the bytes of the input.
-use Prim.Native.Nat.{ℕ, zero, suc, _+_, _/_, _%_}
-use mathlib.Core.Bool.{cond}
+use Prim.Native.Nat.{ℕ}
+use mathlib.Core.Bool.{Bool, cond}
 use mathlib.Core.List.{List, [], _∷_, _++_}
-use lib.Dec.{ltb}
-use lib.ListN.{length, take, drop, getD}
+use lib.ListN.{take, drop, getD}
 use Rattle.answer.specs.Answer.{Answer, refused, given, number, after}
 use Rattle.answer.specs.Bytes.{numberOf}
+use Rattle.answer.specs.Text.{space, lineFeed, decimalIn}
+use Rattle.items.specs.Items.{Item, timer, packet, itemsOf}
 use Rattle.rule.specs.declared.Booking.{Booking}
 use Rattle.desk.specs.declared.Desk.{Desk}
 use Rattle.desk.specs.Moments.{fresh, liveCount}
@@ -14,17 +15,8 @@ use Rattle.desk.specs.Numbers.{saidBy, leftBy}
 
 -- ── lines ──────────────────────────────────────────────────────────────────────────────────────────────────────────
 -- 'slots, answers and counts are decimal'; two digits hold each of them (laws `small-…`)
-abbrev pub digit : ℕ → ℕ
-digit d = 48 + d % 10
-
 unfoldable pub decimal : ℕ → List ℕ
-decimal n = cond (ltb n 10) (digit n ∷ []) (digit (n / 10) ∷ digit n ∷ [])
-
-abbrev pub space : ℕ
-space = 32
-
-abbrev pub lineFeed : ℕ
-lineFeed = 10
+decimal n = decimalIn 2 n
 
 -- '`T slot` or `T !number` per timer'
 abbrev pub timerLine : Answer ℕ → List ℕ
@@ -64,49 +56,29 @@ packetLeft item d = after d (packetIn item d)
 unfoldable pub packetTold : List ℕ → Desk → List ℕ
 packetTold item d = packetLine (number (packetIn item d)) (liveCount (packetLeft item d))
 
--- ── sections ───────────────────────────────────────────────────────────────────────────────────────────────────────
--- the next n bytes and what is after them, if there are so many
-pub data Next : Type 0 where
-  short : Next
-  item : List ℕ → List ℕ → Next
+-- what an item prints, and the desk that it leaves
+abbrev pub itemTold : Item → Desk → List ℕ
+itemTold (timer i) d = timerTold i d
+itemTold (packet i) d = packetTold i d
 
-abbrev pub next : ℕ → List ℕ → Next
-next n xs = cond (ltb (length xs) n) short (item (take n xs) (drop n xs))
+abbrev pub itemLeft : Item → Desk → Desk
+itemLeft (timer i) d = timerLeft i d
+itemLeft (packet i) d = packetLeft i d
 
--- 'or has a byte left over'
-abbrev pub ended : Desk → List ℕ → List ℕ
-ended d [] = endLine d
-ended d (x ∷ xs) = brokenLine d
+-- and several, one after the other
+unfoldable pub linesOf : List Item → Desk → List ℕ
+linesOf [] d = []
+linesOf (i ∷ is) d = itemTold i d ++ linesOf is (itemLeft i d)
 
--- 'in the short case nothing is printed for the item cut'
-abbrev pub onPacket : (Desk → List ℕ → List ℕ) → Desk → Next → List ℕ
-onPacket rest d short = brokenLine d
-onPacket rest d (item i xs) = packetTold i d ++ rest (packetLeft i d) xs
+unfoldable pub deskLeft : List Item → Desk → Desk
+deskLeft [] d = d
+deskLeft (i ∷ is) d = deskLeft is (itemLeft i d)
 
--- n packets, and the end
-unfoldable pub packetsFrom : ℕ → Desk → List ℕ → List ℕ
-packetsFrom zero d xs = ended d xs
-packetsFrom (suc n) d xs = onPacket (packetsFrom n) d (next 47 xs)
+-- ── the sheet ──────────────────────────────────────────────────────────────────────────────────────────────────────
+-- 'input that is short, a count included, or has a byte left over ends with `X live` in place of `Z live`'
+abbrev pub lastLine : Bool → Desk → List ℕ
+lastLine whole d = cond whole (endLine d) (brokenLine d)
 
--- 'a two-byte count, then 47 bytes each'
-abbrev pub onPacketCount : Desk → Next → List ℕ
-onPacketCount d short = brokenLine d
-onPacketCount d (item i xs) = packetsFrom (numberOf i) d xs
-
-abbrev pub onTimer : (Desk → List ℕ → List ℕ) → Desk → Next → List ℕ
-onTimer rest d short = brokenLine d
-onTimer rest d (item i xs) = timerTold i d ++ rest (timerLeft i d) xs
-
--- n timers, and the packets section
-unfoldable pub timersFrom : ℕ → Desk → List ℕ → List ℕ
-timersFrom zero d xs = onPacketCount d (next 2 xs)
-timersFrom (suc n) d xs = onTimer (timersFrom n) d (next 6 xs)
-
--- 'a one-byte count, then 6 bytes each'
-abbrev pub onTimerCount : Desk → Next → List ℕ
-onTimerCount d short = brokenLine d
-onTimerCount d (item i xs) = timersFrom (numberOf i) d xs
-
--- 'its input on standard input is two sections in this order, each after its count'
+-- its items (`itemsOf`, of the crate `items`) make a fresh desk say this
 unfoldable pub sheetOf : List ℕ → List ℕ
-sheetOf xs = onTimerCount fresh (next 1 xs)
+sheetOf xs = let c = itemsOf xs in linesOf (c .items) fresh ++ lastLine (c .whole) (deskLeft (c .items) fresh)

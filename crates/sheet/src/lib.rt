@@ -1,5 +1,5 @@
 // The sheet program's work: what a sheet's bytes make the desk say, however they arrive in pieces.
-mod items; // what a whole item does to the desk, and prints
+mod acts; // what a whole item does to the desk, and prints
 mod lines; // the lines, stored in a buffer
 mod pieces; // a sheet fed piece by piece, and closed
 
@@ -7,23 +7,12 @@ ghost use mathlib.Core.Bool.{true};
 ghost use mathlib.Core.Path.{_≡_};
 ghost use Rattle.sheet.specs.Laws.{Laws};
 use desk::Desk;
+use items::Split;
 
-// What the next bytes are; of timers and packets, how many are left.
-pub enum Stage {
-    TimerCount,
-    Timers(u32),
-    PacketCount,
-    Packets(u32),
-    Played,
-    LeftOver,
-}
-
-// A sheet as far as it has been played: the desk, the stage, and the bytes of an item that is not whole yet.
+// A sheet as far as it has been played: the desk, and the items as far as they are split.
 pub struct Sheet {
     pub desk: Desk,
-    pub stage: Stage,
-    pub have: usize,
-    pub held: [u8; 47],
+    pub split: Split,
 }
 
 // What became of a piece of input: refused where the buffer might not hold what it prints.

@@ -4,9 +4,9 @@ ghost use mathlib.Core.Path.{_≡_};
 ghost use mathlib.Core.List.{_∷_, [], _++_};
 ghost use lib.ListN.{length};
 ghost use Rattle.reply.specs.Numbers.{addAnswer};
-ghost use Rattle.sheet.specs.Sheet.{digit, decimal, space, lineFeed, timerLine, packetLine};
+ghost use Rattle.answer.specs.Text.{space, lineFeed, digit, Stored};
+ghost use Rattle.sheet.specs.Sheet.{decimal, timerLine, packetLine};
 ghost use Rattle.sheet.specs.Pieces.{longest};
-ghost use Rattle.sheet.specs.Stores.{Stored};
 use reply::AddAnswer;
 
 fn put(out: &mut [u8], at: usize, b: u8) -> usize

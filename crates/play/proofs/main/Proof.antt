@@ -4,6 +4,7 @@ use borrow.Author.Needs.{needs}
 use Prim.Native.Nat.{_*_, _≤_}
 use mathlib.Core.Path.{_≡_}
 use lib.ListN.{length}
+use Rattle.items.proofs.Taking.{deciding-less}
 use Rattle.sheet.specs.Pieces.{longest}
 use Rattle.play.proofs.main.Statement.{statement}
 use Rattle.play.proofs.main.Tie as tie
@@ -48,7 +49,11 @@ still-deciding-requires : tie.Need-still-deciding-requires Inv-loop μ-loop
 still-deciding-requires c κs = search needs
 
 loop-less : tie.Need-loop-less Inv-loop μ-loop
-loop-less c = search needs
+loop-less c =
+    let piece = c .before .before .before .before .before .before .before .before in
+    let loop = piece .before .before in
+    rw (c .still-deciding .ensures)
+    (deciding-less (loop .before .loop .left) (piece .play-piece .result .got) (c .before .left-over .result) (loop .loop-test .taken))
 
 loop-again : tie.Need-loop-again Inv-loop μ-loop
 loop-again c = search needs

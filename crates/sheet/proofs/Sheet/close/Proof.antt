@@ -9,6 +9,9 @@ use Rattle.sheet.proofs.Sheet.close.Tie as tie
 has-room-requires : tie.Need-has-room-requires
 has-room-requires c κs = search needs
 
+whole-requires : tie.Need-whole-requires
+whole-requires c κs = search needs
+
 live-requires : tie.Need-live-requires
 live-requires c κs = search needs
 
@@ -17,7 +20,7 @@ letter-requires c κs = search needs
 
 last-line-requires : tie.Need-last-line-requires
 last-line-requires c κs =
-    let t = c .before .before .before .before in
+    let t = c .before .before .before .before .before .before in
     leb-true _ _ (sym (t .before .has-room .ensures) ∙ t .if1 .taken)
 
 same-length : tie.Need-same-length
@@ -29,10 +32,12 @@ returns c =
     let line = c .before .before in
     let letter = line .before in
     let live = letter .before .before in
-    let t = live .before .before in
+    let whole = live .before in
+    let t = whole .before .before .before in
     let s = t .before .before .before in
     rw (
       sym (t .before .has-room .ensures) ∙ t .if1 .taken,
+      ← whole .whole .ensures,
       letter .letter .ensures (s .args .self .desk),
       ← live .live .ensures,
       line .last-line .ensures .0,
@@ -48,6 +53,7 @@ close-spec =
     tie.close
     (tie.spec
     has-room-requires
+    whole-requires
     live-requires
     letter-requires
     last-line-requires

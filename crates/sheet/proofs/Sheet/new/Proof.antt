@@ -3,11 +3,8 @@ use borrow.Author.Needs.{needs}
 use Rattle.sheet.proofs.Sheet.new.Statement.{statement}
 use Rattle.sheet.proofs.Sheet.new.Tie as tie
 
-new-requires : tie.Need-new-requires
-new-requires c κs = search needs
-
 returns : tie.Need-returns
-returns c = rw (c .new .ensures)
+returns c = rw (c .before .new .ensures, c .new2 .ensures)
 
 pub new-spec : {M : Type 1} → statement M
-new-spec = tie.close (tie.spec new-requires returns)
+new-spec = tie.close (tie.spec (λ c κs. search needs) (λ c κs. search needs) returns)

@@ -2,9 +2,10 @@
 use borrow.Author.Needs.{needs}
 use native.Mathlib.Omega.{arith}
 use mathlib.Core.List.{[], _∷_}
-use Rattle.sheet.specs.Sheet.{decimal, lineFeed}
-use Rattle.sheet.proofs.Rooms.{decimal-short}
-use Rattle.sheet.proofs.Texts.{then}
+use Rattle.answer.specs.Text.{lineFeed}
+use Rattle.sheet.specs.Sheet.{decimal}
+use Rattle.sheet.proofs.Rooms.{two-digits}
+use Rattle.answer.proofs.Texts.{then}
 use Rattle.sheet.proofs.lines.end_line.Statement.{statement}
 use Rattle.sheet.proofs.lines.end_line.Tie as tie
 
@@ -14,7 +15,7 @@ put-decimal-requires c κs = search needs
 put-requires : tie.Need-put-requires
 put-requires c κs =
     let number = c .before .before .before in
-    omega (arith, decimal-short (number .before .before .before .args .n))
+    omega (arith, two-digits (number .before .before .before .args .n))
 
 same-length : tie.Need-same-length
 same-length c = search needs

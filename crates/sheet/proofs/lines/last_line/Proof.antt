@@ -1,8 +1,9 @@
 -- `last_line`: its letter, and then its number.
 use borrow.Author.Needs.{needs}
 use mathlib.Core.List.{[], _∷_, _++_}
-use Rattle.sheet.specs.Sheet.{space, decimal, lineFeed}
-use Rattle.sheet.proofs.Texts.{then}
+use Rattle.answer.specs.Text.{space, lineFeed}
+use Rattle.sheet.specs.Sheet.{decimal}
+use Rattle.answer.proofs.Texts.{then}
 use Rattle.sheet.proofs.lines.last_line.Statement.{statement}
 use Rattle.sheet.proofs.lines.last_line.Tie as tie
 

@@ -1,8 +1,8 @@
 -- `open_line`: a letter, and then a space.
 use borrow.Author.Needs.{needs}
 use mathlib.Core.List.{[], _∷_}
-use Rattle.sheet.specs.Sheet.{space}
-use Rattle.sheet.proofs.Texts.{then}
+use Rattle.answer.specs.Text.{space}
+use Rattle.answer.proofs.Texts.{then}
 use Rattle.sheet.proofs.lines.open_line.Statement.{statement}
 use Rattle.sheet.proofs.lines.open_line.Tie as tie
 

@@ -2,9 +2,10 @@
 use borrow.Author.Needs.{needs}
 use native.Mathlib.Omega.{arith}
 use mathlib.Core.List.{[], _∷_, _++_}
-use Rattle.sheet.specs.Sheet.{space, decimal, lineFeed}
-use Rattle.sheet.proofs.Rooms.{decimal-short}
-use Rattle.sheet.proofs.Texts.{then}
+use Rattle.answer.specs.Text.{space, lineFeed}
+use Rattle.sheet.specs.Sheet.{decimal}
+use Rattle.sheet.proofs.Rooms.{two-digits}
+use Rattle.answer.proofs.Texts.{then}
 use Rattle.sheet.proofs.lines.packet_line.Statement.{statement}
 use Rattle.sheet.proofs.lines.packet_line.Tie as tie
 
@@ -18,14 +19,14 @@ put-requires : tie.Need-put-requires
 put-requires c κs =
     let number = c .before .before .before in
     let start = number .before .before .before .before .before .before .before in
-    omega (arith, decimal-short (start .args .answer))
+    omega (arith, two-digits (start .args .answer))
 
 end-line-requires : tie.Need-end-line-requires
 end-line-requires c κs =
     let gap = c .before .before .before in
     let number = gap .before .before .before .before in
     let start = number .before .before .before .before .before .before .before in
-    omega (arith, decimal-short (start .args .answer))
+    omega (arith, two-digits (start .args .answer))
 
 same-length : tie.Need-same-length
 same-length c = search needs

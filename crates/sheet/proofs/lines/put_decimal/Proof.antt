@@ -1,9 +1,8 @@
 -- `put_decimal` stores one digit below 10, and two from 10 on.
 use borrow.Author.Needs.{needs}
-use borrow.Author.Tests.{lt-ltb, le-ltb}
 use mathlib.Core.List.{[], _∷_}
-use Rattle.sheet.specs.Sheet.{digit, decimal}
-use Rattle.sheet.proofs.Texts.{then}
+use Rattle.answer.proofs.Texts.{then}
+use Rattle.sheet.proofs.Rooms.{below-ten, from-ten}
 use Rattle.sheet.proofs.lines.put_decimal.Statement.{statement}
 use Rattle.sheet.proofs.lines.put_decimal.Tie as tie
 
@@ -17,11 +16,10 @@ same-length : tie.Need-same-length
 same-length c = search needs
 
 returns : tie.Need-returns
-unfolding decimal
 returns c =
     let put = c .before .before in
     let test = put .before .before .before in
-    rw (lt-ltb _ _ (test .if1 .taken), ← put .before .digit .ensures) (put .put .ensures)
+    rw (below-ten _ (test .if1 .taken), ← put .before .digit .ensures) (put .put .ensures)
 
 digit-requires-2 : tie.Need-digit-requires-2
 digit-requires-2 c κs = search needs
@@ -39,13 +37,12 @@ same-length-2 : tie.Need-same-length-2
 same-length-2 c = search needs
 
 returns-2 : tie.Need-returns-2
-unfolding decimal
 returns-2 c =
     let second = c .before .before in
     let first = second .before .before .before .before .before in
     let test = first .before .before .before in
     let a = test .before .before .args in
-    rw (le-ltb _ _ (test .if1 .left), ← first .before .digit2 .ensures, ← second .before .digit3 .ensures)
+    rw (from-ten _ (test .if1 .left), ← first .before .digit2 .ensures, ← second .before .digit3 .ensures)
     (then (a .out .now) (a .at) (first .before .digit2 .result ∷ []) (second .before .digit3 .result ∷ []) (first .put2 .ensures) (second .put3 .ensures))
 
 pub put-decimal-spec : {M : Type 1} → statement M

@@ -1,8 +1,9 @@
 -- `refusal`: the mark of a refusal, and then its number.
 use borrow.Author.Needs.{needs}
 use mathlib.Core.List.{[], _∷_, _++_}
-use Rattle.sheet.specs.Sheet.{decimal, lineFeed}
-use Rattle.sheet.proofs.Texts.{then}
+use Rattle.answer.specs.Text.{lineFeed}
+use Rattle.sheet.specs.Sheet.{decimal}
+use Rattle.answer.proofs.Texts.{then}
 use Rattle.sheet.proofs.lines.refusal.Statement.{statement}
 use Rattle.sheet.proofs.lines.refusal.Tie as tie
 

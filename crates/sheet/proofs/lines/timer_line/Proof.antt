@@ -9,9 +9,9 @@ use Rattle.answer.specs.Answer.{refused, number}
 use Rattle.reply.specs.Numbers.{addAnswer}
 use Rattle.reply.specs.declared.AddAnswer.{AddAnswer}
 use Rattle.reply.proofs.AddAnswer.{the-type}
-use Rattle.sheet.specs.Sheet.{space, decimal, lineFeed}
-use Rattle.sheet.specs.Stores.{Stored}
-use Rattle.sheet.proofs.Texts.{then}
+use Rattle.answer.specs.Text.{space, lineFeed, Stored}
+use Rattle.sheet.specs.Sheet.{decimal}
+use Rattle.answer.proofs.Texts.{then}
 use Rattle.sheet.proofs.lines.timer_line.Statement.{statement}
 use Rattle.sheet.proofs.lines.timer_line.Tie as tie
 

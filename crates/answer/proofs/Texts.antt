@@ -1,0 +1,30 @@
+-- Texts stored one after the other are their concatenation stored at once; how long a number is as text.
+use Prim.Native.Nat.{ℕ, zero, suc, _+_, _/_, _≤_}
+use mathlib.Core.Bool.{Bool, true, false, cond}
+use mathlib.Core.Path.{_≡_, sym, _∙_}
+use mathlib.Core.List.{List, [], _∷_, _++_}
+use native.Mathlib.Nat.{add-zero, add-suc, suc-add}
+use native.Mathlib.Omega.{arith}
+use lib.Dec.{ltb}
+use lib.ListN.{length, set, length-append}
+use lib.Seq.{sets}
+use Rattle.answer.specs.Text.{digit, decimalIn, Stored}
+
+pub sets-append : (l : List ℕ) (i : ℕ) (x y : List ℕ) → sets l i (x ++ y) ≡ sets (sets l i x) (i + length x) y
+sets-append l i [] y = rw add-zero
+sets-append l i (a ∷ x) y = rw (add-suc, ← suc-add) (sets-append (set l i a) (suc i) x y)
+
+-- a text, and then another
+pub then : (out : List ℕ) (at : ℕ) (x y : List ℕ) {r s : ℕ} {mid after : List ℕ} →
+    Stored out at x r mid → Stored mid r y s after → Stored out at (x ++ y) s after
+then out at x y {r} {s} p q =
+    (omega (arith, p .0, q .0, length-append x y), q .1 ∙ rw (p .0, p .1) (sym (sets-append out at x y)))
+
+pub decimal-short : (k n : ℕ) → length (decimalIn k n) ≤ k
+unfolding decimalIn
+decimal-short zero n = omega arith
+decimal-short (suc k) n = go (ltb n 10) (decimal-short k (n / 10))
+  where
+    go : (t : Bool) → length (decimalIn k (n / 10)) ≤ k → length (cond t (digit n ∷ []) (decimalIn k (n / 10) ++ (digit n ∷ []))) ≤ suc k
+    go true h = omega arith
+    go false h = omega (arith, length-append (decimalIn k (n / 10)) (digit n ∷ []))

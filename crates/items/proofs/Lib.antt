@@ -1,0 +1,5 @@
+pub mod Numbers
+pub mod Machine
+pub mod Longest
+pub mod Taking
+pub mod Proved
