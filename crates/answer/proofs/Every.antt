@@ -6,7 +6,7 @@ use mathlib.Core.List.{List, [], _∷_, _++_, map}
 use native.Mathlib.Omega.{arith}
 use borrow.Author.Tests.{eqb-true, eq-eqb}
 use lib.Dec.{eqb}
-use Rattle.answer.specs.Answer.{refused, given, Row, firstOf}
+use Rattle.answer.specs.Answer.{refused, given, Row, firstOf, andThen}
 use Rattle.answer.specs.Lists.{some, member}
 use Rattle.answer.proofs.Cases.{both-true, both-false}
 
@@ -106,3 +106,13 @@ accepted a b (row ∷ rows) e = go (row .0) refl e (accepted a b rows)
         ((row .0 ≡ false) × Passed rows) × (a ≡ b)
     go true q h k = absurd (let z : _≡_ {A = ℕ} 0 1 = cc in omega arith)
     go false q h k = let r = k h in ((q, r .0), r .1)
+
+-- what is given, changed by f
+pub first-then : {A B : Type 0} (f : A → B) (a : A) (rows : List Row) → andThen (firstOf rows a) (λ x. given (f x)) ≡ firstOf rows (f a)
+first-then f a [] = refl
+first-then f a (row ∷ rows) = go (row .0) (first-then f a rows)
+  where
+    go : (t : Bool) → andThen (firstOf rows a) (λ x. given (f x)) ≡ firstOf rows (f a) →
+        andThen (cond t (refused (row .1)) (firstOf rows a)) (λ x. given (f x)) ≡ cond t (refused (row .1)) (firstOf rows (f a))
+    go true k = refl
+    go false k = k

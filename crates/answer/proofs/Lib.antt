@@ -1,5 +1,6 @@
 pub mod Cases
 pub mod All
 pub mod Every
+pub mod Counts
 pub mod Answers
 pub mod Proved

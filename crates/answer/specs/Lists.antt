@@ -1,6 +1,6 @@
 -- Words about the elements of a list.
-use Prim.Native.Nat.{ℕ}
-use mathlib.Core.Bool.{Bool, false, _||_}
+use Prim.Native.Nat.{ℕ, _+_}
+use mathlib.Core.Bool.{Bool, false, cond, _||_}
 use mathlib.Core.List.{List, [], _∷_}
 use lib.Dec.{eqb}
 
@@ -13,3 +13,8 @@ some f (x ∷ xs) = f x || some f xs
 abbrev pub member : ℕ → List ℕ → Bool
 member i [] = false
 member i (j ∷ js) = eqb i j || member i js
+
+-- how many pass a test, for 'the count of live timers' and 'how many of its sixteen bytes were mended'
+abbrev pub count : {A : Type 0} → (A → Bool) → List A → ℕ
+count f [] = 0
+count f (x ∷ xs) = cond (f x) 1 0 + count f xs

@@ -1,8 +1,8 @@
--- `fill` stores the thirteen bytes one after the other.
+-- `fill` stores the fourteen bytes one after the other.
 use borrow.Author.Needs.{needs}
 use lib.Dec.{lit<}
 use lib.ListN.{length-set}
-use Rattle.probe.specs.Plain.{fieldBytes}
+use Rattle.probe.specs.Plain.{receivedBytes}
 use Rattle.probe.proofs.Filled.{filled}
 use Rattle.probe.proofs.fill.Statement.{statement}
 use Rattle.probe.proofs.fill.Tie as tie
@@ -61,13 +61,16 @@ slice-write-out-12 c = simp (length-set, c .before .before .before .before .befo
 slice-write-out-13 : tie.Need-slice-write-out-13
 slice-write-out-13 c = simp (length-set, c .before .before .before .before .before .pre) (lit< tt)
 
+slice-write-out-14 : tie.Need-slice-write-out-14
+slice-write-out-14 c = simp (length-set, c .before .before .before .before .before .pre) (lit< tt)
+
 same-length : tie.Need-same-length
 same-length c = simp length-set
 
 returns : tie.Need-returns
 returns c =
     let s = c .before .before .before .before .before in
-    filled (s .args .out .now) (fieldBytes (s .args .l)) (s .pre)
+    filled (s .args .out .now) (receivedBytes (s .args .r)) (s .pre)
 
 pub fill-spec : {M : Type 1} → statement M
 fill-spec =
@@ -91,5 +94,6 @@ fill-spec =
     cast-out-5
     slice-write-out-12
     slice-write-out-13
+    slice-write-out-14
     same-length
     returns)

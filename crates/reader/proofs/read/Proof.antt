@@ -9,8 +9,9 @@ use borrow.Author.Tests.{lt-ltb, le-ltb}
 use lib.Dec.{ltb, eqb}
 use lib.ListN.{getD}
 use Rattle.answer.specs.Answer.{refused, given}
-use Rattle.label.specs.Packet.{readerRows, readingOf, labelIn, format2, valueAt}
+use Rattle.label.specs.Packet.{readerRows, receptionOf, labelIn, mendedAt, mendedIn, format2, valueAt, labelBytes}
 use Rattle.label.proofs.Nibbles.{over}
+use Rattle.label.proofs.Mended.{mended-sum}
 use Rattle.label.proofs.Rows.{Passed, testAt, numberAt, refused-at, given-past, that-length, other-length}
 use Rattle.reader.proofs.read.Statement.{statement}
 use Rattle.reader.proofs.read.Tie as tie
@@ -22,27 +23,27 @@ packet c = c .args .bytes .now
 abbrev packet-1 : tie.Else1 → List ℕ
 packet-1 c = packet (c .before .before)
 
-abbrev packet-2 : tie.After-value2 → List ℕ
+abbrev packet-2 : tie.After-decoded2 → List ℕ
 packet-2 c = packet-1 (c .before .before .before .before)
 
-abbrev packet-4 : tie.After-value3 → List ℕ
+abbrev packet-4 : tie.After-decoded3 → List ℕ
 packet-4 c = packet-2 (c .before .before .before .before)
 
 abbrev packet-6 : tie.After-nibbles → List ℕ
 packet-6 c = packet-4 (c .before .before .before)
 
 -- each test is that of its row
-row-2 : (c : tie.After-value2) → (ltb 15 (c .before .before .value .result) || ltb 15 (c .value2 .result)) ≡ testAt 1 (readerRows (packet-2 c))
-row-2 c = let p = packet-2 c in ap₂ (λ (x y : Bool). x || y) (over (getD p 0 0) (c .before .before .value .ensures)) (over (getD p 1 0) (c .value2 .ensures))
+row-2 : (c : tie.After-decoded2) → (ltb 15 (c .before .before .decoded .result .value) || ltb 15 (c .decoded2 .result .value)) ≡ testAt 1 (readerRows (packet-2 c))
+row-2 c = let p = packet-2 c in ap₂ (λ (x y : Bool). x || y) (over (getD p 0 0) (c .before .before .decoded .ensures .0)) (over (getD p 1 0) (c .decoded2 .ensures .0))
 
-row-3 : (c : tie.After-value2) → not (eqb (c .before .before .value .result) 0 && eqb (c .value2 .result) 15) ≡ testAt 2 (readerRows (packet-2 c))
-row-3 c = ap₂ (λ (x y : ℕ). not (eqb x 0 && eqb y 15)) (c .before .before .value .ensures) (c .value2 .ensures)
+row-3 : (c : tie.After-decoded2) → not (eqb (c .before .before .decoded .result .value) 0 && eqb (c .decoded2 .result .value) 15) ≡ testAt 2 (readerRows (packet-2 c))
+row-3 c = ap₂ (λ (x y : ℕ). not (eqb x 0 && eqb y 15)) (c .before .before .decoded .ensures .0) (c .decoded2 .ensures .0)
 
-row-4 : (c : tie.After-value3) → ltb 15 (c .value3 .result) ≡ testAt 3 (readerRows (packet-4 c))
-row-4 c = over (getD (packet-4 c) 2 0) (c .value3 .ensures)
+row-4 : (c : tie.After-decoded3) → ltb 15 (c .decoded3 .result .value) ≡ testAt 3 (readerRows (packet-4 c))
+row-4 c = over (getD (packet-4 c) 2 0) (c .decoded3 .ensures .0)
 
-row-5 : (c : tie.After-value3) → not (format2 (c .value3 .result)) ≡ testAt 4 (readerRows (packet-4 c))
-row-5 c = ap (λ (x : ℕ). not (format2 x)) (c .value3 .ensures)
+row-5 : (c : tie.After-decoded3) → not (format2 (c .decoded3 .result .value)) ≡ testAt 4 (readerRows (packet-4 c))
+row-5 c = ap (λ (x : ℕ). not (format2 x)) (c .decoded3 .ensures .0)
 
 -- the rows that are passed where a test did not refuse
 passed-1 : (c : tie.Else1) → Passed 1 (readerRows (packet-1 c))
@@ -64,24 +65,24 @@ passed-6 : (c : tie.Else6) → Passed 6 (readerRows (packet-6 (c .before)))
 passed-6 c = (passed-5 (c .before .before), sym (c .before .nibbles .ensures .0) ∙ c .if6 .left)
 
 -- and the refusal where it did
-by : (k : ℕ) (p : List ℕ) → Passed k (readerRows p) → testAt k (readerRows p) ≡ true → refused (numberAt k (readerRows p)) ≡ readingOf p
-unfolding readingOf
-by k p h e = refused-at k (readerRows p) (labelIn p) h e
+by : (k : ℕ) (p : List ℕ) → Passed k (readerRows p) → testAt k (readerRows p) ≡ true → refused (numberAt k (readerRows p)) ≡ receptionOf p
+unfolding receptionOf
+by k p h e = refused-at k (readerRows p) (record { label = labelIn p; mended = mendedIn p }) h e
 
 returns : tie.Need-returns
 returns c = (by 0 (packet (c .before .before)) tt (other-length (packet (c .before .before)) (c .if1 .taken)), refl)
 
-shared-slice-read-value : tie.Need-shared-slice-read-value
-shared-slice-read-value c = search needs
+shared-slice-read-decoded : tie.Need-shared-slice-read-decoded
+shared-slice-read-decoded c = search needs
 
-value-requires : tie.Need-value-requires
-value-requires c κs = search needs
+decoded-requires : tie.Need-decoded-requires
+decoded-requires c κs = search needs
 
-shared-slice-read-value-2 : tie.Need-shared-slice-read-value-2
-shared-slice-read-value-2 c = search needs
+shared-slice-read-decoded-2 : tie.Need-shared-slice-read-decoded-2
+shared-slice-read-decoded-2 c = search needs
 
-value-requires-2 : tie.Need-value-requires-2
-value-requires-2 c κs = search needs
+decoded-requires-2 : tie.Need-decoded-requires-2
+decoded-requires-2 c κs = search needs
 
 returns-2 : tie.Need-returns-2
 returns-2 c = (by 1 (packet-2 (c .before)) (passed-1 (c .before .before .before .before .before)) (sym (row-2 (c .before)) ∙ c .if2 .taken), refl)
@@ -89,11 +90,11 @@ returns-2 c = (by 1 (packet-2 (c .before)) (passed-1 (c .before .before .before 
 returns-3 : tie.Need-returns-3
 returns-3 c = (by 2 (packet-2 (c .before .before)) (passed-2 (c .before)) (sym (row-3 (c .before .before)) ∙ c .if3 .taken), refl)
 
-shared-slice-read-value-3 : tie.Need-shared-slice-read-value-3
-shared-slice-read-value-3 c = search needs
+shared-slice-read-decoded-3 : tie.Need-shared-slice-read-decoded-3
+shared-slice-read-decoded-3 c = search needs
 
-value-requires-3 : tie.Need-value-requires-3
-value-requires-3 c κs = search needs
+decoded-requires-3 : tie.Need-decoded-requires-3
+decoded-requires-3 c κs = search needs
 
 returns-4 : tie.Need-returns-4
 returns-4 c = (by 3 (packet-4 (c .before)) (passed-3 (c .before .before .before)) (sym (row-4 (c .before)) ∙ lt-ltb _ _ (c .if4 .taken)), refl)
@@ -110,29 +111,51 @@ returns-6 c = (by 5 (packet-6 (c .before)) (passed-5 (c .before .before)) (sym (
 label-of-requires : tie.Need-label-of-requires
 label-of-requires c κs = search needs
 
+-- the bytes that are mended: each of the first three is one or none, and of the others there are at most thirteen
+module _ (c : tie.After-label-of) where
+  read-packet : List ℕ
+  read-packet = packet-6 (c .before .before)
+
+add-first : tie.Need-add-first
+add-first c = search needs
+
+add-first-2 : tie.Need-add-first-2
+add-first-2 c = search needs
+
+add-count : tie.Need-add-count
+add-count c = search needs
+
 returns-7 : tie.Need-returns-7
-unfolding readingOf
+unfolding receptionOf
 returns-7 c =
-    let p = packet-6 (c .before .before) in
-    let e = c .label-of .ensures (valueAt p) (c .before .before .before .before .before .value3 .ensures) (c .before .before .nibbles .ensures .1) in
-    (ap given e ∙ given-past (readerRows p) (labelIn p) (passed-6 (c .before)), refl)
+    let s = c .before .before in
+    let p = packet-6 s in
+    let e = c .label-of .ensures (valueAt p) (s .before .before .before .decoded3 .ensures .0) (s .nibbles .ensures .2) in
+    let d₂ = s .before .before .before in
+    let d₁ = d₂ .before .before .before .before in
+    let d₀ = d₁ .before .before in
+    let m = mended-sum p (d₀ .decoded .ensures .1) (d₁ .decoded2 .ensures .1) (d₂ .decoded3 .ensures .1) (s .nibbles .ensures .1) in
+    (ap given (λ i. record { label = e i; mended = m i }) ∙ given-past (readerRows p) (record { label = labelIn p; mended = mendedIn p }) (passed-6 (c .before)), refl)
 
 pub read-spec : {M : Type 1} → statement M
 read-spec =
     tie.close
     (tie.spec
     returns
-    shared-slice-read-value
-    value-requires
-    shared-slice-read-value-2
-    value-requires-2
+    shared-slice-read-decoded
+    decoded-requires
+    shared-slice-read-decoded-2
+    decoded-requires-2
     returns-2
     returns-3
-    shared-slice-read-value-3
-    value-requires-3
+    shared-slice-read-decoded-3
+    decoded-requires-3
     returns-4
     returns-5
     nibbles-requires
     returns-6
     label-of-requires
+    add-first
+    add-first-2
+    add-count
     returns-7)
