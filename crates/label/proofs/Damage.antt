@@ -54,7 +54,7 @@ module _ (g b : ℕ) (good : Good g) where
 
   pub one-wrong : OneWrong g b → (damaged (nibbleOf b) ≡ damaged (nibbleOf g)) × (valueOf (nibbleOf b) ≡ valueOf (nibbleOf g))
   one-wrong w =
-      let s = (sym (ap damaged good-value), sym (ap valueOf good-value)) in
+      let s : (false ≡ damaged (nibbleOf g)) × (good .0 ≡ valueOf (nibbleOf g)) = (sym (ap damaged good-value), sym (ap valueOf good-value)) in
       bytes.near-either b (good .0) (w .0) (good .1) (λ n. (damaged n ≡ damaged (nibbleOf g)) × (valueOf n ≡ valueOf (nibbleOf g))) s s (rw (good .2) at (w .1))
 
   two-wrong : TwoWrong g b → nibbleOf b ≡ Damaged
