@@ -30,7 +30,7 @@ struct Sent {
     number: u64,
 }
 
-fn decoded(b: u8) -> Decoded
+fn value(b: u8) -> Decoded
     ensures { λ r. ⌜ (r .value ≡ valueOf (nibbleOf b)) × (r .mended ≡ cond (eqb (away b) 1) 1 0) ⌝ }
 {
     let n = hamming::decode(b);
@@ -61,7 +61,7 @@ fn nibbles(bytes: &[u8]) -> Sent
     let mut mended: u8 = 0;
     let mut i: usize = 9;
     while i < 22 {
-        let d = decoded(bytes[i]);
+        let d = value(bytes[i]);
         damaged = damaged | (15 < d.value);
         mended = mended + d.mended;
         number = number * 16 + turned(d.value) as u64;
@@ -112,15 +112,15 @@ pub fn read(bytes: &[u8]) -> Reading
     if bytes.len() != 42 {
         return Reading::Refused(Refusal::Length);
     }
-    let d0 = decoded(bytes[0]);
-    let d1 = decoded(bytes[1]);
+    let d0 = value(bytes[0]);
+    let d1 = value(bytes[1]);
     if (15 < d0.value) | (15 < d1.value) {
         return Reading::Refused(Refusal::AddressDamaged);
     }
     if !((d0.value == 0) & (d1.value == 15)) {
         return Reading::Refused(Refusal::OtherPacket);
     }
-    let d2 = decoded(bytes[2]);
+    let d2 = value(bytes[2]);
     if 15 < d2.value {
         return Reading::Refused(Refusal::DesignationDamaged);
     }

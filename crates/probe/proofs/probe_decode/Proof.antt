@@ -22,7 +22,8 @@ enum-known-n-2 c = search needs
 -- a value has four bits
 add-result : tie.Need-add-result
 add-result c =
-    let m = only-mended (c .before .before .before .args .b) _ (sym (c .before .before .before .decode .ensures) ∙ c .before .n2 .given .1) in
+    let d = c .before .before .before in
+    let m = only-mended (d .before .args .b) _ (sym (d .decode .ensures) ∙ c .before .n2 .given .1) in
     search needs
 
 returns : tie.Need-returns

@@ -4,10 +4,8 @@ use borrow.Author.Needs.{needs}
 use Prim.Native.Nat.{ℕ, _-_, _^_, _≤_, _<_}
 use mathlib.Core.Path.{_≡_, refl, ap, _∙_}
 use native.Mathlib.Omega.{arith}
-use lib.Dec.{eqb}
 use lib.ListN.{getD}
 use Rattle.answer.proofs.Counts.{bit-le}
-use Rattle.hamming.specs.Byte.{away}
 use Rattle.label.specs.Layout.{bitAt}
 use Rattle.label.specs.Number.{numberBy}
 use Rattle.answer.specs.Lists.{some, count}
@@ -34,14 +32,14 @@ loop-holds : tie.Need-loop-holds Inv-loop μ-loop
 unfolding numberBy
 loop-holds c = (search needs, search needs, refl, refl, refl)
 
-shared-slice-read-decoded : tie.Need-shared-slice-read-decoded Inv-loop μ-loop
-shared-slice-read-decoded c = search needs
+shared-slice-read-value : tie.Need-shared-slice-read-value Inv-loop μ-loop
+shared-slice-read-value c = search needs
 
-decoded-requires : tie.Need-decoded-requires Inv-loop μ-loop
-decoded-requires c κs = search needs
+value-requires : tie.Need-value-requires Inv-loop μ-loop
+value-requires c κs = search needs
 
 -- another nibble finds room
-room : (c : tie.After-decoded Inv-loop μ-loop) → c .before .before .before .loop .number < 16 ^ 12
+room : (c : tie.After-value Inv-loop μ-loop) → c .before .before .before .loop .number < 16 ^ 12
 room c =
     let p = c .before .before .before .before .before .args .bytes .now in
     let s = c .before .before .before .loop in
@@ -49,16 +47,15 @@ room c =
 
 add-mended : tie.Need-add-mended Inv-loop μ-loop
 add-mended c =
-    let p = c .before .before .before .before .before .args .bytes .now in
-    let s = c .before .before .before .loop in
+    let d = c .before .before in
+    let p = d .before .before .before .before .before .args .bytes .now in
+    let s = d .before .before .before .loop in
     let r = count-room (mendedAt p) 9 (s .i - 9) in
-    let b = bit-le (eqb (away (getD p (s .i) 0)) 1) in
-    let m = c .decoded .ensures .1 in
-    let n = s .inv .3 in
+    let b = bit-le (mendedAt p (s .i)) in
     search needs
 
 mul-number : tie.Need-mul-number Inv-loop μ-loop
-mul-number c = let r = room c in search needs
+mul-number c = let r = room (c .before .before) in search needs
 
 turned-requires : tie.Need-turned-requires Inv-loop μ-loop
 turned-requires c κs = search needs
@@ -67,7 +64,7 @@ cast-number : tie.Need-cast-number Inv-loop μ-loop
 cast-number c = search needs
 
 add-number : tie.Need-add-number Inv-loop μ-loop
-add-number c = let r = room (c .before) in search needs
+add-number c = let r = room (c .before .before .before) in search needs
 
 add-i : tie.Need-add-i Inv-loop μ-loop
 add-i c = search needs
@@ -77,9 +74,10 @@ loop-less c = search needs
 
 loop-again : tie.Need-loop-again Inv-loop μ-loop
 loop-again c =
-    let p = c .before .before .before .before .before .before .args .bytes .now in
-    let s = c .before .before .before .before .loop in
-    let d = c .before .decoded .ensures in (
+    let v = c .before .before .before in
+    let p = v .before .before .before .before .before .args .bytes .now in
+    let s = v .before .before .before .loop in
+    let d = v .value .ensures in (
       search needs,
       search needs,
       some-run (damagedAt p) 9 (s .i) (s .inv .0) (s .inv .2) (over (getD p (s .i) 0) (d .0)),
@@ -104,8 +102,8 @@ nibbles-spec =
     Inv-loop
     μ-loop
     loop-holds
-    shared-slice-read-decoded
-    decoded-requires
+    shared-slice-read-value
+    value-requires
     add-mended
     mul-number
     turned-requires

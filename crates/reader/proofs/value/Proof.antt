@@ -1,4 +1,4 @@
--- `decoded` takes the decoded nibble apart.
+-- `value` takes the decoded nibble apart.
 use borrow.Author.Needs.{needs}
 use Prim.Native.Nat.{ℕ}
 use mathlib.Core.Path.{_≡_, sym, ap, _∙_}
@@ -8,12 +8,15 @@ use Rattle.hamming.specs.Byte.{away, nibbleOf}
 use Rattle.hamming.specs.declared.Nibble.{Nibble}
 use Rattle.hamming.proofs.Nearest.{isMended, mended-away}
 use Rattle.label.specs.Packet.{valueOf}
-use Rattle.reader.proofs.decoded.Statement.{statement}
-use Rattle.reader.proofs.decoded.Tie as tie
+use Rattle.reader.proofs.value.Statement.{statement}
+use Rattle.reader.proofs.value.Tie as tie
+
+abbrev bit : Bool → ℕ
+bit t = cond t 1 0
 
 -- what `decode` answered, as a value and as mended or not
-told : (b : ℕ) {n r : Nibble} → r ≡ n → r ≡ nibbleOf b → (valueOf n ≡ valueOf (nibbleOf b)) × (cond (isMended n) 1 0 ≡ cond (eqb (away b) 1) 1 0)
-told b e d = (ap valueOf (sym e ∙ d), ap (λ (t : Bool). cond t 1 0) (ap isMended (sym e ∙ d) ∙ mended-away b))
+told : (b : ℕ) {n r : Nibble} → r ≡ n → r ≡ nibbleOf b → (valueOf n ≡ valueOf (nibbleOf b)) × (bit (isMended n) ≡ bit (eqb (away b) 1))
+told b e d = (ap valueOf (sym e ∙ d), ap bit (ap isMended (sym e ∙ d) ∙ mended-away b))
 
 decode-requires : tie.Need-decode-requires
 decode-requires c κs = search needs
@@ -36,5 +39,5 @@ returns-2 c = told (c .before .before .before .before .args .b) (c .before .n .g
 returns-3 : tie.Need-returns-3
 returns-3 c = told (c .before .before .before .before .args .b) (c .before .n2 .given .1) (c .before .before .before .decode .ensures)
 
-pub decoded-spec : {M : Type 1} → statement M
-decoded-spec = tie.close (tie.spec decode-requires enum-told enum-known-n enum-known-n-2 returns returns-2 returns-3)
+pub value-spec : {M : Type 1} → statement M
+value-spec = tie.close (tie.spec decode-requires enum-told enum-known-n enum-known-n-2 returns returns-2 returns-3)
