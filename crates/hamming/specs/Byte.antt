@@ -57,7 +57,7 @@ abbrev pub firstAt : ℕ → ℕ → List ℕ → ℕ
 firstAt b d [] = 16
 firstAt b d (v ∷ vs) = cond (eqb (distance b (good v)) d) v (firstAt b d vs)
 
--- the value of the nearest good byte
+-- the value of the nearest good byte, the first listed where several are as near
 unfoldable pub nearest : ℕ → ℕ
 nearest b = firstAt b (away b) values
 
