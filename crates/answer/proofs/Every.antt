@@ -6,7 +6,7 @@ use mathlib.Core.List.{List, [], _∷_, _++_, map}
 use native.Mathlib.Omega.{arith}
 use borrow.Author.Tests.{eqb-true, eq-eqb}
 use lib.Dec.{eqb}
-use Rattle.answer.specs.Answer.{Answer, refused, given, Row, firstOf}
+use Rattle.answer.specs.Answer.{Answer, refused, given, Row, firstOf, andThen}
 use Rattle.answer.specs.Lists.{some, member}
 use Rattle.answer.proofs.Cases.{both-true, both-false}
 
@@ -116,3 +116,13 @@ first-holds P a (row ∷ rows) h g = go (row .0) refl (λ e. first-holds P a row
     go : (b : Bool) → row .0 ≡ b → (row .0 ≡ false → P (firstOf rows a)) → P (cond b (refused (row .1)) (firstOf rows a))
     go true e next = h .0
     go false e next = next e
+
+-- what is given, changed by f
+pub first-then : {A B : Type 0} (f : A → B) (a : A) (rows : List Row) → andThen (firstOf rows a) (λ x. given (f x)) ≡ firstOf rows (f a)
+first-then f a [] = refl
+first-then f a (row ∷ rows) = go (row .0) (first-then f a rows)
+  where
+    go : (t : Bool) → andThen (firstOf rows a) (λ x. given (f x)) ≡ firstOf rows (f a) →
+        andThen (cond t (refused (row .1)) (firstOf rows a)) (λ x. given (f x)) ≡ cond t (refused (row .1)) (firstOf rows (f a))
+    go true k = refl
+    go false k = k

@@ -3,9 +3,9 @@ use Prim.Native.Nat.{ℕ, zero, suc, _-_}
 use mathlib.Core.Bool.{Bool, cond, not, _&&_}
 use mathlib.Core.List.{map}
 use lib.ListN.{replicate}
-use Rattle.answer.specs.Lists.{some}
+use Rattle.answer.specs.Lists.{some, count}
 use Rattle.rule.specs.Rule.{noLabel, stands, nextTimer, liveTimer}
-use Rattle.sixteen.specs.Sixteen.{noTimer, count}
+use Rattle.sixteen.specs.Sixteen.{noTimer}
 use Rattle.desk.specs.declared.Desk.{Desk}
 
 -- 'a fresh desk has clock 0, no label at any place and every slot free'

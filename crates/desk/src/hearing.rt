@@ -108,7 +108,7 @@ impl Desk {
                 let reading = reader::read(bytes);
                 match reading {
                     Reading::Refused(r) => self.refuse(PacketRefusal::Unread(r)),
-                    Reading::Read(l) => self.hear(tuner, time, l),
+                    Reading::Read(r) => self.hear(tuner, time, r.label),
                 }
             }
         }

@@ -1,3 +1,4 @@
 pub mod Ones
+pub mod Nearest
 pub mod Bytes
 pub mod Proved

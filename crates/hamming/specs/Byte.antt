@@ -1,11 +1,11 @@
--- The Hamming 8/4 byte (document 01, 'Packet layout'). Bit 1 of a byte is its lowest.
-use Prim.Native.Nat.{ℕ, zero, suc, _+_, _-_, _*_, _/_, _%_, _^_}
-use mathlib.Core.Bool.{Bool, cond}
-use mathlib.Core.List.{List, [], _∷_}
-use lib.Dec.{ltb, leb, eqb}
+-- The Hamming 8/4 byte (document 01, 'Packet layout'; 02, #102). Bit 1 of a byte is its lowest.
+use Prim.Native.Nat.{ℕ, zero, suc, _+_, _-_, _*_, _/_, _%_, _^_, min}
+use mathlib.Core.Bool.{cond}
+use mathlib.Core.List.{List, [], _∷_, map}
+use lib.Dec.{ltb, eqb}
 use Rattle.answer.specs.Answer.{Answer, refused, given, firstOf}
 use Rattle.hamming.specs.declared.Nibble.{Nibble}
-use Rattle.hamming.specs.declared.Nibble.the-variants.{Damaged, Value}
+use Rattle.hamming.specs.declared.Nibble.the-variants.{Damaged, Clean, Mended}
 use Rattle.hamming.specs.declared.Coded.{Coded}
 use Rattle.hamming.specs.declared.Coded.the-variants.{TooWide, Byte}
 
@@ -42,17 +42,29 @@ apart (suc k) a b = cond (eqb (a % 2) (b % 2)) 0 1 + apart k (a / 2) (b / 2)
 unfoldable pub distance : ℕ → ℕ → ℕ
 distance a b = apart 8 a b
 
--- 'at distance 0 or 1 from one of these'
-unfoldable pub nearTo : ℕ → ℕ → Bool
-nearTo b v = leb (distance b (good v)) 1
+-- the least of some numbers, and 0 of none
+abbrev pub least : List ℕ → ℕ
+least [] = 0
+least (n ∷ []) = n
+least (n ∷ (m ∷ ns)) = min n (least (m ∷ ns))
 
-abbrev pub nearest : ℕ → List ℕ → Nibble
-nearest b [] = Damaged
-nearest b (v ∷ vs) = cond (nearTo b v) (Value v) (nearest b vs)
+-- 'the distance to the nearest good byte', 'the least over the sixteen'
+unfoldable pub away : ℕ → ℕ
+away b = least (map (λ v. distance b (good v)) values)
 
--- 'a byte at distance 0 or 1 from one of these has its value; the others are damaged'
+-- the first listed value whose good byte is at the distance d from a byte, and 16, which is no value, where there is none
+abbrev pub firstAt : ℕ → ℕ → List ℕ → ℕ
+firstAt b d [] = 16
+firstAt b d (v ∷ vs) = cond (eqb (distance b (good v)) d) v (firstAt b d vs)
+
+-- the value of the nearest good byte, the first listed where several are as near
+unfoldable pub nearest : ℕ → ℕ
+nearest b = firstAt b (away b) values
+
+-- 'a byte at distance 0 or 1 from one of these has its value; the others are damaged', and 'clean with its value, mended with its
+-- value, damaged': at distance 0 it is clean, and 'mended is at distance exactly 1'
 unfoldable pub nibbleOf : ℕ → Nibble
-nibbleOf b = nearest b values
+nibbleOf b = cond (eqb (away b) 0) (Clean (nearest b)) (cond (eqb (away b) 1) (Mended (nearest b)) Damaged)
 
 -- the paper's number of a value that is wider than its four bits
 abbrev pub codedAnswer : Coded → Answer ℕ

@@ -2,12 +2,14 @@
 ghost use mathlib.Core.Path.{_≡_};
 ghost use mathlib.Core.Bool.{true};
 ghost use Prim.Native.Nat.{_%_};
-ghost use Rattle.hamming.specs.Byte.{good, nearTo, nibbleOf, codedAnswer, codingOf};
+ghost use lib.Dec.{leb};
+ghost use Rattle.hamming.specs.Byte.{good, distance, nibbleOf, codedAnswer, codingOf};
 ghost use Rattle.hamming.specs.Laws.{Laws};
 
 pub enum Nibble {
     Damaged,
-    Value(u8),
+    Clean(u8),
+    Mended(u8),
 }
 
 pub enum Coded {
@@ -46,22 +48,26 @@ pub fn good_byte(v: u8) -> u8
 }
 
 fn near(b: u8, v: u8) -> bool
-    ensures { λ r. ⌜ r ≡ nearTo b (v % 16) ⌝ }
+    ensures { λ r. ⌜ r ≡ leb (distance b (good (v % 16))) 1 ⌝ }
 {
     let g = good_byte(v);
     u8::count_ones(b ^ g) <= 1
 }
 
-// The byte's own data bits are tried first, so that a clean byte costs one look into the table.
+// A byte that is the good byte of its own data bits is clean, which costs one look into the table.
 pub fn decode(b: u8) -> Nibble
     ensures { λ r. ⌜ r ≡ nibbleOf b ⌝ }
 {
     let own = (b / 2 % 2) + (b / 8 % 2) * 2 + (b / 32 % 2) * 4 + (b / 128) * 8;
+    let g = good_byte(own);
+    if b == g {
+        return Nibble::Clean(own);
+    }
     let mut i: usize = 0;
     while i < 5 {
         let v = own ^ FLIPS[i];
         if near(b, v) {
-            return Nibble::Value(v);
+            return Nibble::Mended(v);
         }
         i += 1;
     }

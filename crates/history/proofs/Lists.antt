@@ -6,7 +6,7 @@ use mathlib.Core.List.{List, [], _∷_}
 use mathlib.Core.Logic.{_⊎_, inl, inr}
 use native.Mathlib.Omega.{arith}
 use lib.ListN.{getD, set, replicate}
-use Rattle.sixteen.specs.Sixteen.{count}
+use Rattle.answer.specs.Lists.{count}
 
 -- the element is the one stored, or the one before
 abbrev Stored : {A : Type 0} → A → A → List A → ℕ → ℕ → Type 0

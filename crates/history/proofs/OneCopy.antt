@@ -6,12 +6,13 @@ use borrow.Author.Tests.{eqb-true, eq-eqb}
 use lib.Dec.{eqb}
 use Rattle.calendar.specs.Laws.{InWindow}
 use Rattle.calendar.proofs.Proved as calendar
+use Rattle.answer.specs.Lists.{count}
 use Rattle.answer.proofs.Cases.{both-true}
 use Rattle.rule.specs.Rule.{held, isLive, liveTimer}
 use Rattle.rule.specs.declared.Copy.{Copy}
 use Rattle.rule.specs.declared.Copy.the-variants.{Free, Waiting, Prepared, Recording, RunningOn}
 use Rattle.desk.specs.declared.Desk.{Desk}
-use Rattle.sixteen.specs.Sixteen.{noTimer, count, active, sameBooking}
+use Rattle.sixteen.specs.Sixteen.{noTimer, active, sameBooking}
 use Rattle.desk.specs.Calls.{timerAt}
 use Rattle.history.specs.Laws.{copyOf, Sound}
 use Rattle.history.proofs.Lists.{count-one}

@@ -7,6 +7,7 @@ use mathlib.Core.Logic.{_⊎_}
 use lib.Dec.{ltb, eqb}
 use lib.ListN.{length, getD}
 use Rattle.answer.specs.Answer.{Answer, refused, given}
+use Rattle.answer.specs.Lists.{count}
 use Rattle.calendar.specs.Calendar.{clockEnd, windowIn}
 use Rattle.calendar.specs.declared.Window.{Window}
 use Rattle.rule.specs.Rule.{noLabel, openAt, matches, recordingAt, nextCopy, held, isLive, liveTimer}
@@ -16,7 +17,7 @@ use Rattle.rule.specs.declared.Copy.{Copy}
 use Rattle.rule.specs.declared.Copy.the-variants.{Free, Waiting, Prepared, Recording, RunningOn}
 use Rattle.rule.specs.declared.Timer.{Timer}
 use Rattle.desk.specs.declared.Desk.{Desk}
-use Rattle.sixteen.specs.Sixteen.{count, active, sameBooking}
+use Rattle.sixteen.specs.Sixteen.{active, sameBooking}
 use Rattle.desk.specs.Moments.{fresh, moment, walk, quiet, walkedIn, walkedTo}
 use Rattle.desk.specs.Calls.{packetOf, askOf, timerAt}
 use Rattle.history.specs.Run.{Call, wait, cancel, deskAfter, answersOf, reached, accepted, givenOnes}

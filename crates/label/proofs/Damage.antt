@@ -1,4 +1,4 @@
--- The reader goes by the sixteen nibbles: it looks at no other byte, one wrong bit in each is nothing, two in one are refused.
+-- The reader goes by the values of the sixteen bytes: it looks at no other byte, one wrong bit in each is nothing, two in one are refused.
 use Prim.Native.Nat.{ℕ, suc, _≤_}
 use mathlib.Core.Path.{_≡_, refl, sym, ap, ap₂, fun-ext, _∙_}
 use mathlib.Core.Bool.{true, false, _||_, or-true}
@@ -9,44 +9,60 @@ use lib.Dec.{eqb, ltb}
 use lib.ListN.{length, getD, take, drop}
 use Rattle.answer.specs.Answer.{refused, Row, firstOf}
 use Rattle.hamming.specs.Byte.{nibbleOf}
-use Rattle.hamming.specs.declared.Nibble.the-variants.{Damaged, Value}
+use Rattle.hamming.specs.declared.Nibble.the-variants.{Damaged, Clean}
 use Rattle.hamming.proofs.Bytes as bytes
 use Rattle.label.specs.Layout.{labelBy}
-use Rattle.label.specs.Packet.{readerRows, readingOf, labelIn, nibbleAt, valueAt, valueOf, damagedAt, damaged, hammingBytes, labelBytes}
+use Rattle.label.specs.Packet.{readerRows, readingOf, labelIn, valueAt, valueOf, damagedAt, damaged, hammingBytes, labelBytes}
 use Rattle.answer.specs.Lists.{member}
 use Rattle.label.specs.Laws.{AtEach, Good, OneWrong, TwoWrong, damageNumber, sooner}
 use Rattle.answer.proofs.Every.{All, all-map, every, listed, each-listed, unlisted, some-same, none-some, some-one}
 use Rattle.label.proofs.Sooner.{one-more, sooner-le}
 use Rattle.label.proofs.Places.{sentBytes, field-same}
 
--- ── the sixteen nibbles ────────────────────────────────────────────────────────────────────────────────────────────
-by-nibbles : (p q : List ℕ) → length p ≡ length q → AtEach (λ i. nibbleAt p i ≡ nibbleAt q i) → readingOf p ≡ readingOf q
-unfolding readingOf
-by-nibbles p q h e =
-    let n : All (λ i. nibbleAt p i ≡ nibbleAt q i) (0 ∷ 1 ∷ 2 ∷ labelBytes) = unlisted hammingBytes e in
-    let d = some-same (damagedAt p) (damagedAt q) labelBytes
-    (all-map (λ i. nibbleAt p i ≡ nibbleAt q i) (λ i. damagedAt p i ≡ damagedAt q i) (λ i e. ap damaged e) labelBytes (n .1 .1 .1)) in
-    let v = all-map (λ i. nibbleAt p i ≡ nibbleAt q i) (λ i. valueAt p i ≡ valueAt q i) (λ i e. ap valueOf e) sentBytes (n .1 .1) in
-    let rows : readerRows p ≡ readerRows q = rw (h, n .0, n .1 .0, n .1 .1 .0, d) in
-    ap₂ firstOf rows (ap labelBy (fun-ext (field-same (valueAt p) (valueAt q) v)))
+-- ── the sixteen values ─────────────────────────────────────────────────────────────────────────────────────────────
+-- byte i of two packets is damaged in both or in neither, and has the same value
+abbrev pub SameAt : List ℕ → List ℕ → ℕ → Type 0
+SameAt p q i = (damagedAt p i ≡ damagedAt q i) × (valueAt p i ≡ valueAt q i)
+
+module _ (p q : List ℕ) (h : length p ≡ length q) (e : AtEach (SameAt p q)) where
+  pub same-rows : readerRows p ≡ readerRows q
+  same-rows =
+      let n : All (SameAt p q) (0 ∷ 1 ∷ 2 ∷ labelBytes) = unlisted hammingBytes e in
+      let d = some-same (damagedAt p) (damagedAt q) labelBytes (all-map (SameAt p q) (λ i. damagedAt p i ≡ damagedAt q i) (λ i e. e .0) labelBytes (n .1 .1 .1)) in
+      rw (h, n .0 .0, n .0 .1, n .1 .0 .0, n .1 .0 .1, n .1 .1 .0 .0, n .1 .1 .0 .1, d)
+
+  pub same-fields : labelIn p ≡ labelIn q
+  same-fields =
+      let n : All (SameAt p q) (0 ∷ 1 ∷ sentBytes) = unlisted hammingBytes e in
+      let v = all-map (SameAt p q) (λ i. valueAt p i ≡ valueAt q i) (λ i e. e .1) sentBytes (n .1 .1) in
+      ap labelBy (fun-ext (field-same (valueAt p) (valueAt q) v))
+
+  by-values : readingOf p ≡ readingOf q
+  unfolding readingOf
+  by-values = ap₂ firstOf same-rows same-fields
+
+pub same-bytes : (p q : List ℕ) → AtEach (λ i. getD p i 0 ≡ getD q i 0) → AtEach (SameAt p q)
+same-bytes p q e i m = (ap (λ (b : ℕ). damaged (nibbleOf b)) (e i m), ap (λ (b : ℕ). valueOf (nibbleOf b)) (e i m))
 
 pub only : (p q : List ℕ) → length p ≡ length q → AtEach (λ i. getD p i 0 ≡ getD q i 0) → readingOf p ≡ readingOf q
-only p q h e = by-nibbles p q h (λ i m. ap nibbleOf (e i m))
+only p q h e = by-values p q h (same-bytes p q e)
 
 -- ── wrong bits in a good byte ──────────────────────────────────────────────────────────────────────────────────────
 module _ (g b : ℕ) (good : Good g) where
-  good-value : nibbleOf g ≡ Value (good .0)
+  good-value : nibbleOf g ≡ Clean (good .0)
   good-value = ap nibbleOf (good .2) ∙ bytes.sent (good .0) (good .1)
 
-  one-wrong : OneWrong g b → nibbleOf b ≡ nibbleOf g
-  one-wrong w = bytes.near b (good .0) (w .0) (good .1) (rw (good .2) at (w .1)) ∙ sym good-value
+  pub one-wrong : OneWrong g b → (damaged (nibbleOf b) ≡ damaged (nibbleOf g)) × (valueOf (nibbleOf b) ≡ valueOf (nibbleOf g))
+  one-wrong w =
+      let s : (false ≡ damaged (nibbleOf g)) × (good .0 ≡ valueOf (nibbleOf g)) = (sym (ap damaged good-value), sym (ap valueOf good-value)) in
+      bytes.near-either b (good .0) (w .0) (good .1) (λ n. (damaged n ≡ damaged (nibbleOf g)) × (valueOf n ≡ valueOf (nibbleOf g))) s s (rw (good .2) at (w .1))
 
   two-wrong : TwoWrong g b → nibbleOf b ≡ Damaged
   two-wrong w = bytes.two b (good .0) (w .0) (good .1) (rw (good .2) at (w .1))
 
 pub one : (p q : List ℕ) → length p ≡ length q → AtEach (λ i. Good (getD p i 0)) → AtEach (λ i. OneWrong (getD p i 0) (getD q i 0)) →
     readingOf q ≡ readingOf p
-one p q h g w = by-nibbles q p (sym h) (λ i m. one-wrong (getD p i 0) (getD q i 0) (g i m) (w i m))
+one p q h g w = by-values q p (sym h) (λ i m. one-wrong (getD p i 0) (getD q i 0) (g i m) (w i m))
 
 -- ── a damaged byte ─────────────────────────────────────────────────────────────────────────────────────────────────
 -- the row after k others, with the number n, applies
@@ -97,7 +113,7 @@ turned p q k n e f b a =
 module _ (p q : List ℕ) (hp : length p ≡ 42) (hq : length q ≡ 42) (clean : All (λ i. damagedAt p i ≡ false) hammingBytes) where
   -- byte j alone is damaged
   abbrev Alone : ℕ → Type 0
-  Alone j = (damagedAt q j ≡ true) × AtEach (λ i. (i ≡ j → ⊥) → nibbleAt q i ≡ nibbleAt p i)
+  Alone j = (damagedAt q j ≡ true) × AtEach (λ i. (i ≡ j → ⊥) → SameAt q p i)
 
   abbrev Told : ℕ → Type 0
   Told j = Alone j → readingOf q ≡ refused (sooner (readingOf p) (damageNumber j))
@@ -109,7 +125,7 @@ module _ (p q : List ℕ) (hp : length p ≡ 42) (hq : length q ≡ 42) (clean :
   told-2 a =
       let n₀ = a .1 0 refl (omega arith) in
       let n₁ = a .1 1 refl (omega arith) in
-      turned p q 3 4 (rw (hq, hp, n₀, n₁, a .0)) (rw (clean .1 .1 .0)) refl refl
+      turned p q 3 4 (rw (hq, hp, n₀ .0, n₀ .1, n₁ .0, n₁ .1, a .0)) (rw (clean .1 .1 .0)) refl refl
 
   told-label : (j : ℕ) → member j labelBytes ≡ true → Told j
   told-label j m a =
@@ -118,7 +134,7 @@ module _ (p q : List ℕ) (hp : length p ≡ 42) (hq : length q ≡ 42) (clean :
       let n₁ = a .1 1 refl (omega arith) in
       let n₂ = a .1 2 refl (omega arith) in
       rw (label-number j m)
-      (turned p q 5 6 (rw (hq, hp, n₀, n₁, n₂, some-one (damagedAt q) labelBytes j m (a .0))) (rw (none-some (damagedAt p) labelBytes (clean .1 .1 .1))) refl refl)
+      (turned p q 5 6 (rw (hq, hp, n₀ .0, n₀ .1, n₁ .0, n₁ .1, n₂ .0, n₂ .1, some-one (damagedAt q) labelBytes j m (a .0))) (rw (none-some (damagedAt p) labelBytes (clean .1 .1 .1))) refl refl)
 
   told : AtEach Told
   told =

@@ -8,4 +8,5 @@ pub mod Places
 pub mod Sent
 pub mod Round
 pub mod Damage
+pub mod Mended
 pub mod Proved

@@ -10,9 +10,9 @@ use lib.Dec.{T, ltb, eqb, eqb→eq}
 use lib.ListN.{getD}
 use Rattle.hamming.specs.Byte.{D, nibbleOf}
 use Rattle.hamming.specs.declared.Nibble.{Nibble}
-use Rattle.hamming.specs.declared.Nibble.the-variants.{Damaged, Value}
+use Rattle.hamming.specs.declared.Nibble.the-variants.{Damaged, Clean, Mended}
 use Rattle.answer.proofs.All.{below, each}
-use Rattle.hamming.proofs.Bytes.{value-small}
+use Rattle.hamming.proofs.Nearest.{only-clean, only-mended}
 use Rattle.label.specs.Layout.{numberFrom, four}
 use Rattle.label.specs.Packet.{damaged, valueOf}
 use Rattle.label.proofs.Digits.{of-digits}
@@ -23,7 +23,8 @@ over b h = ap (ltb 15) h ∙ go (nibbleOf b) refl
   where
     go : (n : Nibble) → nibbleOf b ≡ n → ltb 15 (valueOf n) ≡ damaged n
     go Damaged e = refl
-    go (Value v) e = let h = value-small b v e in le-ltb 15 v (omega arith)
+    go (Clean v) e = let h = only-clean b v e in le-ltb 15 v (omega arith)
+    go (Mended v) e = let h = only-mended b v e in le-ltb 15 v (omega arith)
 
 -- the number of the data bits, D4 first, is that of the four lowest bits
 pub low-four : (v : ℕ) → v % 16 ≡ numberFrom 0 (D 4 v ∷ D 3 v ∷ D 2 v ∷ D 1 v ∷ [])

@@ -16,6 +16,7 @@ use Rattle.label.specs.Pil.{twentyBits, dayOf, monthOf, hourOf, minuteOf
 use Rattle.label.specs.Laws.{Laws}
 use Rattle.label.proofs.Round.{back, right, kept}
 use Rattle.label.proofs.Damage.{only, one, two, two-refused}
+use Rattle.label.proofs.Mended.{same-label, counted, counted-0, back-clean, one-each, only-received, at-most-16}
 
 -- ── a PIL is the number of its parts ───────────────────────────────────────────────────────────────────────────────
 whole : (pil x y day month hour minute : ℕ) → x * 64 + minute ≡ pil → y * 32 + hour ≡ x → day * 16 + month ≡ y → pil < 1048576 →
@@ -58,6 +59,13 @@ laws = record {
   one = one;
   two = two;
   two-refused = two-refused;
+  same-label = same-label;
+  counted = counted;
+  counted-0 = counted-0;
+  back-clean = back-clean;
+  one-each = one-each;
+  only-received = only-received;
+  at-most-16 = at-most-16;
   timer-control = unfold serviceOf in refl;
   inhibit-terminate = unfold serviceOf in refl;
   interruption = unfold serviceOf in refl;

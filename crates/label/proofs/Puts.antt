@@ -1,7 +1,7 @@
 -- Elements put into a list: what stands there afterwards, and loops that store or test one after the other.
 use Prim.Native.Nat.{ℕ, zero, suc, _+_, _-_, _≤_, _<_}
 use mathlib.Core.Path.{_≡_, refl, sym, ap, ap₂, _∙_}
-use mathlib.Core.Bool.{Bool, true, false, _||_, or-false}
+use mathlib.Core.Bool.{Bool, true, false, cond, _||_, or-false}
 use mathlib.Core.List.{List, [], _∷_, _++_}
 use native.Mathlib.Omega.{arith}
 use borrow.Author.Tests.{eqb-true, eqb-false}
@@ -9,9 +9,10 @@ use lib.Dec.{eqb}
 use lib.ListN.{length, getD, set, length-set}
 use lib.Seq.{getD-set-same, getD-set-other, lt-length-set}
 use Rattle.answer.proofs.Cases.{both-false}
-use Rattle.answer.specs.Lists.{some, member}
+use Rattle.answer.specs.Lists.{some, member, count}
 use Rattle.label.specs.Packet.{put}
 use Rattle.answer.proofs.Every.{All, no-way, some-more}
+use Rattle.answer.proofs.Counts.{bit-le, count-more}
 
 -- ── what stands there ──────────────────────────────────────────────────────────────────────────────────────────────
 pub put-length : (f : ℕ → ℕ) (is p : List ℕ) → length (put f is p) ≡ length p
@@ -62,9 +63,20 @@ run-more a i h =
     let g : a + (i - a) ≡ i = omega arith in
     rw e (ap (λ (n : ℕ). run a (i - a) ++ (n ∷ [])) g)
 
--- a loop over these numbers that stores at each, and one that tests each
+-- a loop over these numbers that stores at each, one that tests each, and one that counts
 pub put-run : (f : ℕ → ℕ) (a i : ℕ) → a ≤ i → (p : List ℕ) {q : List ℕ} {b : ℕ} → q ≡ put f (run a (i - a)) p → b ≡ f i → set q i b ≡ put f (run a (i + 1 - a)) p
 put-run f a i h p e g = stored i e g ∙ sym (put-more f (run a (i - a)) i p) ∙ ap (λ (is : List ℕ). put f is p) (sym (run-more a i h))
 
 pub some-run : (f : ℕ → Bool) (a i : ℕ) → a ≤ i → {t b : Bool} → t ≡ some f (run a (i - a)) → b ≡ f i → t || b ≡ some f (run a (i + 1 - a))
 some-run f a i h e g = ap₂ (λ (x : Bool) (y : Bool). x || y) e g ∙ sym (some-more f (run a (i - a)) i) ∙ ap (some f) (sym (run-more a i h))
+
+pub count-run : (f : ℕ → Bool) (a i : ℕ) → a ≤ i → {n m : ℕ} → n ≡ count f (run a (i - a)) → m ≡ cond (f i) 1 0 → n + m ≡ count f (run a (i + 1 - a))
+count-run f a i h e g = ap₂ (λ (x y : ℕ). x + y) e g ∙ sym (count-more f (run a (i - a)) i) ∙ ap (count f) (sym (run-more a i h))
+
+pub count-room : (f : ℕ → Bool) (a k : ℕ) → count f (run a k) ≤ k
+count-room f a zero = omega arith
+count-room f a (suc k) =
+    let m = count-more f (run a k) (a + k) in
+    let b = bit-le (f (a + k)) in
+    let r = count-room f a k in
+    omega arith

@@ -3,20 +3,21 @@ use Prim.Native.Nat.{ℕ, _^_, _<_}
 use mathlib.Core.Path.{_≡_, refl, sym, ap, fun-ext, _∙_}
 use mathlib.Core.Bool.{Bool, true, false, not, _&&_, _||_}
 use mathlib.Core.List.{List}
-use borrow.Author.Tests.{eq-eqb, eqb-true, ltb-true, lt-leb, leb-false, not-false}
+use native.Mathlib.Omega.{arith}
+use borrow.Author.Tests.{eq-eqb, eqb-true, ltb-true, ltb-false, lt-leb, leb-false, not-false}
 use lib.Dec.{eqb, ltb}
 use lib.ListN.{length, getD}
 use Rattle.answer.specs.Answer.{given}
 use Rattle.hamming.specs.Byte.{good, nibbleOf}
-use Rattle.hamming.specs.declared.Nibble.{Nibble}
-use Rattle.hamming.specs.declared.Nibble.the-variants.{Damaged, Value}
+use Rattle.hamming.specs.declared.Nibble.the-variants.{Clean}
 use Rattle.hamming.proofs.Bytes as bytes
 use Rattle.answer.proofs.Cases.{both-true, both-false}
 use Rattle.label.specs.declared.Label.{Label}
 use Rattle.label.specs.Layout.{Field, designation, fields, positions, fieldOf, labelBy, fieldBy}
 use Rattle.answer.specs.Lists.{some, member}
 use Rattle.label.specs.Packet.{readerRows, readingOf, labelIn, writerRows, writingOf, put, byteFor, valueFor, nibbleAt, valueAt, valueOf, damagedAt, damaged, format2, unfit, tooWide, hammingBytes, labelBytes}
-use Rattle.answer.proofs.Every.{no-way, All, all-of, all-map, listed, each-listed, unlisted, some-none, none-some, Passed, passed, accepted}
+use Rattle.answer.proofs.Every.{All, all-of, all-map, listed, each-listed, unlisted, some-none, none-some, Passed, passed, accepted}
+use Rattle.label.proofs.Nibbles.{over}
 use Rattle.label.proofs.Puts.{put-length, put-in, put-other, put-same}
 use Rattle.label.proofs.Places.{fielded, sentBytes, field-same, designation-of, value-small, field-back, field-fits, sent-again}
 
@@ -33,11 +34,11 @@ module _ (l : Label) (u : unfit l ≡ false) where
       ∙ not-false (format2 (l .designation)) ((both-false (some (tooWide l) fields) (not (format2 (l .designation))) u) .1)
 
   -- a packet with the values of the label reads as the label
-  reads : (q : List ℕ) → length q ≡ 42 → All (λ i. nibbleAt q i ≡ Value (valueFor l i)) hammingBytes → readingOf q ≡ given l
+  reads : (q : List ℕ) → length q ≡ 42 → All (λ i. nibbleAt q i ≡ Clean (valueFor l i)) hammingBytes → readingOf q ≡ given l
   unfolding readingOf
   reads q h n =
-      let whole = all-map (λ i. nibbleAt q i ≡ Value (valueFor l i)) (λ i. damagedAt q i ≡ false) (λ i e. ap damaged e) labelBytes (n .1 .1 .1) in
-      let values = all-map (λ i. nibbleAt q i ≡ Value (valueFor l i)) (λ i. valueAt q i ≡ valueFor l i) (λ i e. ap valueOf e) sentBytes (n .1 .1) in
+      let whole = all-map (λ i. nibbleAt q i ≡ Clean (valueFor l i)) (λ i. damagedAt q i ≡ false) (λ i e. ap damaged e) labelBytes (n .1 .1 .1) in
+      let values = all-map (λ i. nibbleAt q i ≡ Clean (valueFor l i)) (λ i. valueAt q i ≡ valueFor l i) (λ i e. ap valueOf e) sentBytes (n .1 .1) in
       passed (labelIn q) (readerRows q) (
         rw (eq-eqb (length q) 42 h),
         (
@@ -55,7 +56,7 @@ module _ (l : Label) (p q : List ℕ) (e : writingOf l p ≡ given q) where
   size : length p ≡ 42
   size = eqb-true (length p) 42 (not-false (eqb (length p) 42) (written .0 .0))
 
-  stands : (i : ℕ) → member i hammingBytes ≡ true → getD q i 0 ≡ byteFor l i
+  pub stands : (i : ℕ) → member i hammingBytes ≡ true → getD q i 0 ≡ byteFor l i
   stands i m =
       ap (λ (x : List ℕ). getD x i 0) (sym (written .1))
       ∙ put-in (byteFor l) hammingBytes p i m
@@ -71,16 +72,20 @@ module _ (l : Label) (p q : List ℕ) (e : writingOf l p ≡ given q) where
   kept = rw (← written .1) (put-length (byteFor l) hammingBytes p, put-other (byteFor l) hammingBytes p)
 
 -- ── put right ──────────────────────────────────────────────────────────────────────────────────────────────────────
-whole-value : (n : Nibble) → damaged n ≡ false → n ≡ Value (valueOf n)
-whole-value Damaged e = no-way e
-whole-value (Value v) e = refl
-
 module _ (p : List ℕ) (t : Passed (readerRows p)) where
-  -- bytes 2 and 9 to 21 are whole
+  pub read-size : length p ≡ 42
+  read-size = eqb-true (length p) 42 (not-false (eqb (length p) 42) (t .0))
+
+  -- none of the sixteen bytes is damaged
+  pub whole : All (λ i. damagedAt p i ≡ false) hammingBytes
+  whole =
+      let a = both-false (damagedAt p 0) (damagedAt p 1) (t .1 .0) in
+      (a .0, (a .1, (t .1 .1 .1 .0, some-none (damagedAt p) labelBytes (t .1 .1 .1 .1 .1 .0))))
+
   small : All (λ i. valueAt p i < 16) sentBytes
   small =
-      all-map (λ i. damagedAt p i ≡ false) (λ i. valueAt p i < 16) (λ i e. bytes.value-small (getD p i 0) (valueAt p i) (whole-value (nibbleAt p i) e)) sentBytes
-      (t .1 .1 .1 .0, some-none (damagedAt p) labelBytes (t .1 .1 .1 .1 .1 .0))
+      all-map (λ i. damagedAt p i ≡ false) (λ i. valueAt p i < 16) (λ i e. let l = ltb-false 15 (valueAt p i) (over (getD p i 0) refl ∙ e) in omega arith)
+      sentBytes (whole .1 .1)
 
   address : (eqb (valueAt p 0) 0 && eqb (valueAt p 1) 15) ≡ true
   address = not-false (eqb (valueAt p 0) 0 && eqb (valueAt p 1) 15) (t .1 .1 .0)

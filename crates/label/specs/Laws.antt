@@ -1,19 +1,20 @@
 -- What is claimed of packet and PIL. Proved in proofs/Proved.antt.
 use Prim.Native.Nat.{ℕ, _≤_, _<_}
 use mathlib.Core.Path.{_≡_}
-use mathlib.Core.Bool.{true, false, cond}
+use mathlib.Core.Bool.{Bool, true, false, cond, not}
 use mathlib.Core.List.{List, [], _∷_}
 use lib.Dec.{eqb, ltb}
 use lib.ListN.{length, getD}
-use Rattle.answer.specs.Answer.{Answer, refused, given, Unique}
-use Rattle.answer.specs.Lists.{member}
+use Rattle.answer.specs.Answer.{Answer, refused, given, andThen, Unique}
+use Rattle.answer.specs.Lists.{member, count}
 use Rattle.hamming.specs.Byte.{D, good, distance}
 use Rattle.label.specs.declared.Label.{Label}
+use Rattle.label.specs.declared.Received.{Received}
 use Rattle.label.specs.declared.Refusal.{Refusal}
 use Rattle.label.specs.declared.Written.{Written}
 use Rattle.label.specs.declared.pil.Service.the-variants.{Programme, TimerControl, InhibitTerminate, Interruption, Continuation, NoSpecificValue}
 use Rattle.label.specs.Layout.{numberFrom}
-use Rattle.label.specs.Packet.{refusalNumber, readingOf, writtenNumber, writingOf, put, valueAt, hammingBytes}
+use Rattle.label.specs.Packet.{refusalNumber, readingOf, mendedIn, receptionOf, writtenNumber, writingOf, put, putRight, valueAt, hammingBytes}
 use Rattle.label.specs.Pil.{partsOf, serviceOf}
 
 -- something holds at each of the sixteen bytes
@@ -27,6 +28,10 @@ Good g = (v : ℕ) × (v < 16) × (g ≡ good v)
 -- b is the byte g with at most one wrong bit
 abbrev pub OneWrong : ℕ → ℕ → Type 0
 OneWrong g b = (b < 256) × (distance b g ≤ 1)
+
+-- b is the byte g with n wrong bits
+abbrev pub Wrong : ℕ → ℕ → ℕ → Type 0
+Wrong n g b = (b < 256) × (distance b g ≡ n)
 
 -- b is the byte g with two wrong bits
 abbrev pub TwoWrong : ℕ → ℕ → Type 0
@@ -62,6 +67,23 @@ pub record Laws : Type 0 where
   -- two wrong bits in one of them are refused whatever the other bytes are, and however many: with that byte's number or an earlier one
   pub two-refused : (p : List ℕ) (j g : ℕ) → member j hammingBytes ≡ true → Good g → TwoWrong g (getD p j 0) →
       (n : ℕ) × (n ≤ damageNumber j) × (readingOf p ≡ refused n)
+  -- what is received has the label that is read, or is refused with the same number
+  pub same-label : (p : List ℕ) → andThen (receptionOf p) (λ r. given (r .label)) ≡ readingOf p
+  -- the count of mended bytes is the number of the sixteen that differ from the packet put right, and 0 exactly where none does
+  pub counted : (p : List ℕ) (r : Received) → AtEach (λ i. getD p i 0 < 256) → receptionOf p ≡ given r →
+      r .mended ≡ count (λ i. not (eqb (getD p i 0) (getD (putRight p) i 0))) hammingBytes
+  pub counted-0 : (p : List ℕ) (r : Received) → AtEach (λ i. getD p i 0 < 256) → receptionOf p ≡ given r →
+      (r .mended ≡ 0 → p ≡ putRight p) × (p ≡ putRight p → r .mended ≡ 0)
+  -- what the writer wrote is received with none mended
+  pub back-clean : (l : Label) (p q : List ℕ) → writingOf l p ≡ given q → receptionOf q ≡ given (record { label = l; mended = 0 })
+  -- one wrong bit in each of any of the sixteen bytes, whichever they are, and none in the others: as many are mended, or it is refused as before
+  pub one-each : (p q : List ℕ) (wrong : ℕ → Bool) → length p ≡ length q → AtEach (λ i. Good (getD p i 0)) →
+      AtEach (λ i. Wrong (cond (wrong i) 1 0) (getD p i 0) (getD q i 0)) →
+      receptionOf q ≡ andThen (readingOf p) (λ l. given (record { label = l; mended = count wrong hammingBytes }))
+  -- no byte but the sixteen changes what is received
+  pub only-received : (p q : List ℕ) → length p ≡ length q → AtEach (λ i. getD p i 0 ≡ getD q i 0) → receptionOf p ≡ receptionOf q
+  -- no more than the sixteen are mended
+  pub at-most-16 : (p : List ℕ) → mendedIn p ≤ 16
   -- the service codes are those of clause 6.2 e), bit by bit
   pub timer-control : serviceOf 0b00000_1111_11111_111111 ≡ TimerControl
   pub inhibit-terminate : serviceOf 0b00000_1111_11110_111111 ≡ InhibitTerminate

@@ -1,15 +1,16 @@
--- Packet 8/30 format 2 (document 01, 'Packet layout' and the table of refusals): what the reader gives, and what the writer leaves.
+-- Packet 8/30 format 2 (document 01, 'Packet layout' and the table of refusals; 02, #102): what the reader gives, and what the writer leaves.
 use Prim.Native.Nat.{ℕ, _^_}
 use mathlib.Core.Bool.{Bool, true, false, cond, not, _&&_, _||_}
 use mathlib.Core.List.{List, [], _∷_}
 use lib.Dec.{leb, eqb}
 use lib.ListN.{length, getD, set}
 use Rattle.answer.specs.Answer.{Answer, refused, given, Row, firstOf}
-use Rattle.answer.specs.Lists.{some}
-use Rattle.hamming.specs.Byte.{good, nibbleOf}
+use Rattle.answer.specs.Lists.{some, count}
+use Rattle.hamming.specs.Byte.{good, away, nibbleOf}
 use Rattle.hamming.specs.declared.Nibble.{Nibble}
-use Rattle.hamming.specs.declared.Nibble.the-variants.{Damaged, Value}
+use Rattle.hamming.specs.declared.Nibble.the-variants.{Damaged, Clean, Mended}
 use Rattle.label.specs.declared.Label.{Label}
+use Rattle.label.specs.declared.Received.{Received}
 use Rattle.label.specs.declared.Refusal.{Refusal}
 use Rattle.label.specs.declared.Refusal.the-variants.{Length, AddressDamaged, OtherPacket, DesignationDamaged, OtherDesignation, LabelDamaged}
 use Rattle.label.specs.declared.Reading.{Reading}
@@ -32,7 +33,8 @@ nibbleAt p i = nibbleOf (getD p i 0)
 
 abbrev pub damaged : Nibble → Bool
 damaged Damaged = true
-damaged (Value v) = false
+damaged (Clean v) = false
+damaged (Mended v) = false
 
 abbrev pub damagedAt : List ℕ → ℕ → Bool
 damagedAt p i = damaged (nibbleAt p i)
@@ -40,10 +42,15 @@ damagedAt p i = damaged (nibbleAt p i)
 -- a damaged byte has no value, and 16 stands for it
 abbrev pub valueOf : Nibble → ℕ
 valueOf Damaged = 16
-valueOf (Value v) = v
+valueOf (Clean v) = v
+valueOf (Mended v) = v
 
 abbrev pub valueAt : List ℕ → ℕ → ℕ
 valueAt p i = valueOf (nibbleAt p i)
+
+-- 'mended is at distance exactly 1'
+abbrev pub mendedAt : List ℕ → ℕ → Bool
+mendedAt p i = eqb (away (getD p i 0)) 1
 
 -- 'designation, 2 or 3 for format 2'
 abbrev pub format2 : ℕ → Bool
@@ -68,6 +75,14 @@ labelIn p = labelBy (fieldBy (valueAt p))
 unfoldable pub readingOf : List ℕ → Answer Label
 readingOf p = firstOf (readerRows p) (labelIn p)
 
+-- 'how many of its sixteen bytes (0 to 2, 9 to 21) were mended'
+unfoldable pub mendedIn : List ℕ → ℕ
+mendedIn p = count (mendedAt p) hammingBytes
+
+-- 'the label and how many of its sixteen bytes were mended'; 'a refused packet gets its number alone'
+unfoldable pub receptionOf : List ℕ → Answer Received
+receptionOf p = firstOf (readerRows p) (record { label = labelIn p; mended = mendedIn p })
+
 -- the paper's numbers
 abbrev pub refusalNumber : Refusal → ℕ
 refusalNumber Length = 1
@@ -77,9 +92,9 @@ refusalNumber DesignationDamaged = 4
 refusalNumber OtherDesignation = 5
 refusalNumber LabelDamaged = 6
 
-abbrev pub readingAnswer : Reading → Answer Label
+abbrev pub readingAnswer : Reading → Answer Received
 readingAnswer (Refused r) = refused (refusalNumber r)
-readingAnswer (Read l) = given l
+readingAnswer (Read r) = given r
 
 -- ── the writer ─────────────────────────────────────────────────────────────────────────────────────────────────────
 abbrev pub tooWide : Label → Field → Bool
@@ -104,6 +119,10 @@ byteFor l i = good (valueFor l i)
 abbrev pub put : (ℕ → ℕ) → List ℕ → List ℕ → List ℕ
 put f [] p = p
 put f (i ∷ is) p = put f is (set p i (f i))
+
+-- a packet put right: each of its sixteen bytes is the good byte of its value
+abbrev pub putRight : List ℕ → List ℕ
+putRight p = put (λ i. good (valueAt p i)) hammingBytes p
 
 -- 'writes bytes 0 to 2 and 9 to 21, and touches no other byte'
 unfoldable pub writingOf : Label → List ℕ → Answer (List ℕ)

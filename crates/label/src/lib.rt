@@ -46,9 +46,15 @@ impl Refusal {
     }
 }
 
+// A label, and how many of its packet's sixteen bytes were mended.
+pub struct Received {
+    pub label: Label,
+    pub mended: u8,
+}
+
 pub enum Reading {
     Refused(Refusal),
-    Read(Label),
+    Read(Received),
 }
 
 // What became of a label to be written: refusals 1 and 16, or the bytes.

@@ -1,6 +1,6 @@
 -- The definitions that the examples compute with, named once: to unfold `rules` is to unfold them all. Walking is not among them, so
 -- that the seconds of a long wait are not passed one by one where they pass at once.
-use Rattle.hamming.specs.Byte.{D, good, distance, nearTo, nibbleOf}
+use Rattle.hamming.specs.Byte.{D, good, distance, away, nearest, nibbleOf}
 use Rattle.calendar.specs.Calendar.{leap, daysIn, dayExists, realIn, sumBelow, daysBeforeMonth, daysOfYear, daysBeforeYear, dayNumber, opening, closing, opensAt, closesAt, windowIn}
 use Rattle.label.specs.Packet.{readingOf, byteFor, writingOf}
 use Rattle.label.specs.Pil.{serviceOf}
@@ -11,5 +11,5 @@ use Rattle.sheet.specs.Sheet.{decimal, timerTold, timerLeft, packetTold, packet
 use Rattle.history.specs.Run.{outcome, answersOf, deskAfter}
 
 unfoldable pub rules : Unit {0}
-unfolding D good distance nearTo nibbleOf leap daysIn dayExists realIn sumBelow daysBeforeMonth daysOfYear daysBeforeYear dayNumber opening closing opensAt closesAt windowIn readingOf byteFor writingOf serviceOf stands heardAt openAt endedAt matches sightOf recordingAt fromRecording fromRunningOn nextCopy nextTimer moment nextSecond quiet walkedIn walkedTo liveCount hearingAt packetOf waitOf roomIn addOf askOf decimal timerTold timerLeft packetTold packetLeft packetsFrom timersFrom sheetOf outcome answersOf deskAfter
+unfolding D good distance away nearest nibbleOf leap daysIn dayExists realIn sumBelow daysBeforeMonth daysOfYear daysBeforeYear dayNumber opening closing opensAt closesAt windowIn readingOf byteFor writingOf serviceOf stands heardAt openAt endedAt matches sightOf recordingAt fromRecording fromRunningOn nextCopy nextTimer moment nextSecond quiet walkedIn walkedTo liveCount hearingAt packetOf waitOf roomIn addOf askOf decimal timerTold timerLeft packetTold packetLeft packetsFrom timersFrom sheetOf outcome answersOf deskAfter
 rules = tt

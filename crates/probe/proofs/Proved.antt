@@ -6,9 +6,8 @@ use Rattle.answer.specs.Answer.{Answer, after, number, Unique}
 use Rattle.answer.proofs.Answers.{equation, paired}
 use Rattle.calendar.specs.Calendar.{windowIn}
 use Rattle.hamming.specs.Byte.{nibbleOf, codingOf}
-use Rattle.label.specs.Packet.{valueOf}
 use Rattle.label.specs.Pil.{serviceOf}
-use Rattle.probe.specs.Plain.{byteOr, readInto, writeFrom, serviceNumber, windowOr}
+use Rattle.probe.specs.Plain.{nibbleNumber, byteOr, readInto, writeFrom, serviceNumber, windowOr}
 use Rattle.probe.specs.Laws.{Laws, Left}
 
 -- a number, a buffer and what was lent to be read, each by an equation
@@ -19,7 +18,7 @@ left a was lent =
 
 pub laws : Laws
 laws = record {
-  decode-unique = λ b. equation (valueOf (nibbleOf b));
+  decode-unique = λ b. equation (nibbleNumber (nibbleOf b));
   encode-unique = λ v. equation (byteOr (codingOf v));
   read-unique = λ p out. left (readInto p out) out p;
   write-unique = λ f p. left (writeFrom f p) p f;

@@ -1,39 +1,44 @@
--- What is answered through thirteen bytes: a refusal where they are not thirteen, else the answer of the call below.
+-- What is answered through lent bytes: a refusal where they are more or fewer, else the answer of the call below.
 use Prim.Native.Nat.{ℕ}
 use mathlib.Core.Path.{_≡_, ap, _∙_}
 use mathlib.Core.List.{List}
 use lib.ListN.{length}
-use Rattle.answer.specs.Answer.{Answer, refused, number, after, andThen}
+use Rattle.answer.specs.Answer.{Answer, refused, given, number, after, andThen}
 use Rattle.label.specs.declared.Label.{Label}
-use Rattle.label.specs.Packet.{readingOf, writingOf}
+use Rattle.label.specs.declared.Received.{Received}
+use Rattle.label.specs.Packet.{receptionOf, writingOf}
 use Rattle.label.proofs.Rows.{other-length, that-length}
-use Rattle.probe.specs.Plain.{notThirteen, thirteen, fieldsGiven, labelOf, readInto, writeFrom}
+use Rattle.probe.specs.Plain.{wrongRoom, roomOf, receivedBytes, labelOf, readInto, writeFrom}
 
 -- an answer that is another, as its number and as what it leaves of a buffer
 pub as-both : (was : List ℕ) {a b : Answer (List ℕ)} → a ≡ b → (number a ≡ number b) × (after was a ≡ after was b)
 as-both was e = (ap number e, ap (after was) e)
 
-through : (f : List ℕ) (g : List ℕ → Answer (List ℕ)) → length f ≡ 13 → g f ≡ andThen (thirteen f) g
-through f g h = rw (that-length f h)
+module _ (n : ℕ) (f : List ℕ) (g : List ℕ → Answer (List ℕ)) where
+  through : length f ≡ n → g f ≡ andThen (roomOf n f) g
+  through h = rw (that-length f h)
 
-stopped : (f : List ℕ) (g : List ℕ → Answer (List ℕ)) → (length f ≡ 13 → ⊥) → refused notThirteen ≡ andThen (thirteen f) g
-stopped f g h = rw (other-length f h)
+  stopped : (length f ≡ n → ⊥) → refused wrongRoom ≡ andThen (roomOf n f) g
+  stopped h = rw (other-length f h)
 
-pub read-stopped : (p out : List ℕ) → (length out ≡ 13 → ⊥) → refused notThirteen ≡ readInto p out
+abbrev inBytes : Answer Received → Answer (List ℕ)
+inBytes a = andThen a (λ r. given (receivedBytes r))
+
+pub read-stopped : (p out : List ℕ) → (length out ≡ 14 → ⊥) → refused wrongRoom ≡ readInto p out
 unfolding readInto
-read-stopped p out h = stopped out (λ o. fieldsGiven (readingOf p)) h
+read-stopped p out h = stopped 14 out (λ o. inBytes (receptionOf p)) h
 
-pub read-through : (p out : List ℕ) (a : Answer Label) → length out ≡ 13 → a ≡ readingOf p → fieldsGiven a ≡ readInto p out
+pub read-through : (p out : List ℕ) (a : Answer Received) → length out ≡ 14 → a ≡ receptionOf p → inBytes a ≡ readInto p out
 unfolding readInto
-read-through p out a h e = ap fieldsGiven e ∙ through out (λ o. fieldsGiven (readingOf p)) h
+read-through p out a h e = ap inBytes e ∙ through 14 out (λ o. inBytes (receptionOf p)) h
 
-pub write-stopped : (f p : List ℕ) → (length f ≡ 13 → ⊥) → refused notThirteen ≡ writeFrom f p
+pub write-stopped : (f p : List ℕ) → (length f ≡ 13 → ⊥) → refused wrongRoom ≡ writeFrom f p
 unfolding writeFrom
-write-stopped f p h = stopped f (λ g. writingOf (labelOf g) p) h
+write-stopped f p h = stopped 13 f (λ g. writingOf (labelOf g) p) h
 
 write-through : (f p : List ℕ) → length f ≡ 13 → writingOf (labelOf f) p ≡ writeFrom f p
 unfolding writeFrom
-write-through f p h = through f (λ g. writingOf (labelOf g) p) h
+write-through f p h = through 13 f (λ g. writingOf (labelOf g) p) h
 
 -- what the writer left of a packet and answered by the number n, it did for the thirteen bytes
 pub written : (f p : List ℕ) {last : List ℕ} {l : Label} {n : ℕ} → length f ≡ 13 → l ≡ labelOf f →

@@ -1,16 +1,25 @@
 -- The answers of the crates below as plain numbers and bytes.
 use Prim.Native.Nat.{ℕ, _+_, _*_, _/_, _%_}
 use mathlib.Core.Bool.{not}
-use mathlib.Core.List.{List, [], _∷_}
+use mathlib.Core.List.{List, [], _∷_, _++_}
 use lib.Dec.{eqb}
 use lib.ListN.{length, getD}
 use Rattle.answer.specs.Answer.{Answer, refused, given, firstOf, andThen}
 use Rattle.answer.specs.Bytes.{numberOf}
 use Rattle.calendar.specs.declared.Window.{Window}
+use Rattle.hamming.specs.declared.Nibble.{Nibble}
+use Rattle.hamming.specs.declared.Nibble.the-variants.{Damaged, Clean, Mended}
 use Rattle.label.specs.declared.Label.{Label}
+use Rattle.label.specs.declared.Received.{Received}
 use Rattle.label.specs.declared.pil.Service.{Service}
 use Rattle.label.specs.declared.pil.Service.the-variants.{Programme, TimerControl, InhibitTerminate, Interruption, Continuation, NoSpecificValue}
-use Rattle.label.specs.Packet.{readingOf, writingOf}
+use Rattle.label.specs.Packet.{receptionOf, writingOf}
+
+-- the value of a clean byte, 32 more for a mended one, and 16 for a damaged one
+abbrev pub nibbleNumber : Nibble → ℕ
+nibbleNumber Damaged = 16
+nibbleNumber (Clean v) = v
+nibbleNumber (Mended v) = 32 + v
 
 -- a byte, or 256 times the number of a refusal
 abbrev pub byteOr : Answer ℕ → ℕ
@@ -22,6 +31,10 @@ abbrev pub fieldBytes : Label → List ℕ
 fieldBytes l =
     l .designation ∷ l .lci ∷ l .luf ∷ l .prf ∷ l .pcs ∷ l .mi ∷ l .spare
     ∷ l .cni / 256 % 256 ∷ l .cni % 256 ∷ l .pil / 65536 % 256 ∷ l .pil / 256 % 256 ∷ l .pil % 256 ∷ l .pty ∷ []
+
+-- and what is received as fourteen: the label's, then the count of mended bytes
+abbrev pub receivedBytes : Received → List ℕ
+receivedBytes r = fieldBytes (r .label) ++ (r .mended ∷ [])
 
 abbrev pub labelOf : List ℕ → Label
 labelOf f = record {
@@ -37,24 +50,21 @@ labelOf f = record {
   pty = getD f 12 0;
 }
 
--- the answer where the thirteen bytes of a label are not thirteen: no number of the paper
-abbrev pub notThirteen : ℕ
-notThirteen = 255
+-- the answer where the bytes lent for a label are more or fewer: no number of the paper
+abbrev pub wrongRoom : ℕ
+wrongRoom = 255
 
-abbrev pub thirteen : List ℕ → Answer (List ℕ)
-thirteen f = firstOf ((not (eqb (length f) 13), notThirteen) ∷ []) f
+-- bytes that are n in number
+abbrev pub roomOf : ℕ → List ℕ → Answer (List ℕ)
+roomOf n f = firstOf ((not (eqb (length f) n), wrongRoom) ∷ []) f
 
-abbrev pub fieldsGiven : Answer Label → Answer (List ℕ)
-fieldsGiven (refused n) = refused n
-fieldsGiven (given l) = given (fieldBytes l)
-
--- what a packet reads as, into a lent buffer
+-- what a packet is received as, in fourteen bytes of a lent buffer
 unfoldable pub readInto : List ℕ → List ℕ → Answer (List ℕ)
-readInto p out = andThen (thirteen out) (λ o. fieldsGiven (readingOf p))
+readInto p out = andThen (roomOf 14 out) (λ o. andThen (receptionOf p) (λ r. given (receivedBytes r)))
 
 -- the packet that thirteen bytes make of a lent one
 unfoldable pub writeFrom : List ℕ → List ℕ → Answer (List ℕ)
-writeFrom f p = andThen (thirteen f) (λ g. writingOf (labelOf g) p)
+writeFrom f p = andThen (roomOf 13 f) (λ g. writingOf (labelOf g) p)
 
 abbrev pub serviceNumber : Service → ℕ
 serviceNumber Programme = 0

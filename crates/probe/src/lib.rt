@@ -3,12 +3,11 @@ ghost use mathlib.Core.Bool.{true};
 ghost use mathlib.Core.Path.{_≡_};
 ghost use Rattle.answer.specs.Answer.{number, after};
 ghost use Rattle.hamming.specs.Byte.{nibbleOf, codingOf};
-ghost use Rattle.label.specs.Packet.{valueOf};
 ghost use Rattle.label.specs.Pil.{serviceOf};
 ghost use Rattle.calendar.specs.Calendar.{windowIn};
 ghost use lib.ListN.{length};
 ghost use Rattle.probe.specs.Laws.{Laws};
-ghost use Rattle.probe.specs.Plain.{byteOr, fieldBytes, labelOf, readInto, writeFrom, serviceNumber, windowOr};
+ghost use Rattle.probe.specs.Plain.{nibbleNumber, byteOr, receivedBytes, labelOf, readInto, writeFrom, serviceNumber, windowOr};
 use answer::pair;
 use answer::triple;
 use calendar::Validity;
@@ -16,20 +15,22 @@ use hamming::Coded;
 use hamming::Nibble;
 use label::Label;
 use label::Reading;
+use label::Received;
 use label::pil::Service;
 
-// The answer where the thirteen bytes of a label are not thirteen: no number of the paper.
-const NOT_THIRTEEN: u8 = 255;
+// The answer where the bytes lent for a label are more or fewer: no number of the paper.
+const WRONG_ROOM: u8 = 255;
 
-// The value, and 16 for a damaged byte.
+// The value of a clean byte, 32 more for a mended one, and 16 for a damaged one.
 #[no_mangle]
 pub extern "C" fn probe_decode(b: u8) -> u8
-    ensures { λ r. ⌜ r ≡ valueOf (nibbleOf b) ⌝ }
+    ensures { λ r. ⌜ r ≡ nibbleNumber (nibbleOf b) ⌝ }
 {
     let n = hamming::decode(b);
     match n {
         Nibble::Damaged => 16,
-        Nibble::Value(v) => v,
+        Nibble::Clean(v) => v,
+        Nibble::Mended(v) => 32 + v,
     }
 }
 
@@ -44,10 +45,11 @@ pub extern "C" fn probe_encode(v: u8) -> u16
     }
 }
 
-fn fill(l: Label, out: &mut [u8])
-    requires { ⌜ length (now out) ≡ 13 ⌝ }
-    ensures { λ r. ⌜ now (out .exit) ≡ fieldBytes l ⌝ }
+fn fill(r: Received, out: &mut [u8])
+    requires { ⌜ length (now out) ≡ 14 ⌝ }
+    ensures { λ x. ⌜ now (out .exit) ≡ receivedBytes r ⌝ }
 {
+    let l = r.label;
     out[0] = l.designation;
     out[1] = l.lci;
     out[2] = l.luf;
@@ -61,6 +63,7 @@ fn fill(l: Label, out: &mut [u8])
     out[10] = (l.pil / 256 % 256) as u8;
     out[11] = (l.pil % 256) as u8;
     out[12] = l.pty;
+    out[13] = r.mended;
 }
 
 #[no_mangle]
@@ -68,14 +71,14 @@ pub extern "C" fn probe_read(bytes: &[u8], out: &mut [u8]) -> u8
     ensures { λ r. ⌜ (r ≡ number (readInto (now (bytes .entry)) (now (out .entry)))) × (now (out .exit) ≡ after (now (out .entry)) (readInto (now (bytes .entry)) (now (out .entry)))) ⌝ }
     ensures { λ r. ⌜ now (bytes .exit) ≡ now (bytes .entry) ⌝ }
 {
-    if out.len() != 13 {
-        return NOT_THIRTEEN;
+    if out.len() != 14 {
+        return WRONG_ROOM;
     }
     let r = reader::read(bytes);
     match r {
         Reading::Refused(why) => why.number(),
-        Reading::Read(l) => {
-            fill(l, out);
+        Reading::Read(got) => {
+            fill(got, out);
             0
         }
     }
@@ -107,7 +110,7 @@ pub extern "C" fn probe_write(fields: &[u8], buf: &mut [u8]) -> u8
     ensures { λ r. ⌜ now (fields .exit) ≡ now (fields .entry) ⌝ }
 {
     if fields.len() != 13 {
-        return NOT_THIRTEEN;
+        return WRONG_ROOM;
     }
     let l = label_of(fields);
     let w = writer::write(l, buf);

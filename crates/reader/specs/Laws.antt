@@ -4,7 +4,7 @@ use mathlib.Core.Path.{_≡_}
 use mathlib.Core.List.{List}
 use Rattle.answer.specs.Answer.{Unique}
 use Rattle.label.specs.declared.Reading.{Reading}
-use Rattle.label.specs.Packet.{readingAnswer, readingOf}
+use Rattle.label.specs.Packet.{readingAnswer, receptionOf}
 
 pub record Laws : Type 0 where
-  pub read-unique : (p : List ℕ) → Unique {A = Reading × List ℕ} (λ o. (readingAnswer (o .0) ≡ readingOf p) × (o .1 ≡ p))
+  pub read-unique : (p : List ℕ) → Unique {A = Reading × List ℕ} (λ o. (readingAnswer (o .0) ≡ receptionOf p) × (o .1 ≡ p))

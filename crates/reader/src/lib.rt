@@ -1,52 +1,75 @@
-// A packet's bytes read into a label.
-ghost use mathlib.Core.Bool.{true};
+// A packet's bytes read into a label, and its mended bytes counted.
+ghost use mathlib.Core.Bool.{true, cond};
 ghost use mathlib.Core.Path.{_≡_};
 ghost use Prim.Native.Nat.{ℕ, _<_};
+ghost use lib.Dec.{eqb};
 ghost use lib.ListN.{length};
-ghost use Rattle.answer.specs.Lists.{some};
-ghost use Rattle.hamming.specs.Byte.{nibbleOf};
+ghost use Rattle.answer.specs.Lists.{some, count};
+ghost use Rattle.hamming.specs.Byte.{away, nibbleOf};
 ghost use Rattle.label.specs.Layout.{bitAt, fieldBy, labelBy};
 ghost use Rattle.label.specs.Number.{numberBy};
-ghost use Rattle.label.specs.Packet.{valueOf, valueAt, damagedAt, labelBytes, readingAnswer, readingOf};
+ghost use Rattle.label.specs.Packet.{valueOf, valueAt, damagedAt, mendedAt, labelBytes, readingAnswer, receptionOf};
 ghost use Rattle.reader.specs.Laws.{Laws};
 use hamming::Nibble;
 use label::Label;
 use label::Reading;
+use label::Received;
 use label::Refusal;
 use label::nibble::turned;
 
-// Bytes 9 to 21 as one number of 52 bits, the first sent highest, and whether one of them is damaged.
+// A byte's value, 16 for a damaged one, and 1 for a mended one.
+struct Decoded {
+    value: u8,
+    mended: u8,
+}
+
+// Bytes 9 to 21 as one number of 52 bits, the first sent highest, whether one of them is damaged, and how many are mended.
 struct Sent {
     damaged: bool,
+    mended: u8,
     number: u64,
 }
 
-// 16 for a damaged byte.
-fn value(b: u8) -> u8
-    ensures { λ r. ⌜ r ≡ valueOf (nibbleOf b) ⌝ }
+fn value(b: u8) -> Decoded
+    ensures { λ r. ⌜ (r .value ≡ valueOf (nibbleOf b)) × (r .mended ≡ cond (eqb (away b) 1) 1 0) ⌝ }
 {
     let n = hamming::decode(b);
     match n {
-        Nibble::Damaged => 16,
-        Nibble::Value(v) => v,
+        Nibble::Damaged => Decoded {
+            value: 16,
+            mended: 0,
+        },
+        Nibble::Clean(v) => Decoded {
+            value: v,
+            mended: 0,
+        },
+        Nibble::Mended(v) => Decoded {
+            value: v,
+            mended: 1,
+        },
     }
 }
 
 fn nibbles(bytes: &[u8]) -> Sent
     requires { ⌜ length (now bytes) ≡ 42 ⌝ }
-    ensures { λ r. ⌜ (r .damaged ≡ some (damagedAt (now (bytes .entry))) labelBytes) × (r .number ≡ numberBy (bitAt (valueAt (now (bytes .entry)))) labelBytes) ⌝ }
+    ensures { λ r. ⌜ (r .damaged ≡ some (damagedAt (now (bytes .entry))) labelBytes)
+        × (r .mended ≡ count (mendedAt (now (bytes .entry))) labelBytes)
+        × (r .number ≡ numberBy (bitAt (valueAt (now (bytes .entry)))) labelBytes) ⌝ }
 {
     let mut number: u64 = 0;
     let mut damaged = false;
+    let mut mended: u8 = 0;
     let mut i: usize = 9;
     while i < 22 {
-        let v = value(bytes[i]);
-        damaged = damaged | (15 < v);
-        number = number * 16 + turned(v) as u64;
+        let d = value(bytes[i]);
+        damaged = damaged | (15 < d.value);
+        mended = mended + d.mended;
+        number = number * 16 + turned(d.value) as u64;
         i += 1;
     }
     Sent {
         damaged: damaged,
+        mended: mended,
         number: number,
     }
 }
@@ -81,35 +104,40 @@ fn label_of(designation: u8, number: u64) -> Label
     }
 }
 
-// The label of a packet, or the first refusal that applies.
+// The label of a packet and the count of its mended bytes, or the first refusal that applies.
 pub fn read(bytes: &[u8]) -> Reading
-    ensures { λ r. ⌜ readingAnswer r ≡ readingOf (now (bytes .entry)) ⌝ }
+    ensures { λ r. ⌜ readingAnswer r ≡ receptionOf (now (bytes .entry)) ⌝ }
     ensures { λ r. ⌜ now (bytes .exit) ≡ now (bytes .entry) ⌝ }
 {
     if bytes.len() != 42 {
         return Reading::Refused(Refusal::Length);
     }
-    let v0 = value(bytes[0]);
-    let v1 = value(bytes[1]);
-    if (15 < v0) | (15 < v1) {
+    let d0 = value(bytes[0]);
+    let d1 = value(bytes[1]);
+    if (15 < d0.value) | (15 < d1.value) {
         return Reading::Refused(Refusal::AddressDamaged);
     }
-    if !((v0 == 0) & (v1 == 15)) {
+    if !((d0.value == 0) & (d1.value == 15)) {
         return Reading::Refused(Refusal::OtherPacket);
     }
-    let v2 = value(bytes[2]);
-    if 15 < v2 {
+    let d2 = value(bytes[2]);
+    if 15 < d2.value {
         return Reading::Refused(Refusal::DesignationDamaged);
     }
-    if !((v2 == 2) | (v2 == 3)) {
+    if !((d2.value == 2) | (d2.value == 3)) {
         return Reading::Refused(Refusal::OtherDesignation);
     }
-    let label = nibbles(bytes);
-    if label.damaged {
+    let sent = nibbles(bytes);
+    if sent.damaged {
         return Reading::Refused(Refusal::LabelDamaged);
     }
-    let l = label_of(v2, label.number);
-    Reading::Read(l)
+    let l = label_of(d2.value, sent.number);
+    let first = d0.mended + d1.mended + d2.mended;
+    let count = first + sent.mended;
+    Reading::Read(Received {
+        label: l,
+        mended: count,
+    })
 }
 
 // The law of one outcome, as a promise of the crate.

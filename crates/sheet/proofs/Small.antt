@@ -7,6 +7,7 @@ use native.Mathlib.Omega.{arith}
 use lib.Dec.{ltb}
 use lib.ListN.{length, take, drop, getD, length-map, length-set}
 use Rattle.answer.specs.Answer.{Answer, refused, given, Row, firstOf, andThen, number, after}
+use Rattle.answer.proofs.Counts.{count-length}
 use Rattle.answer.proofs.Every.{first-holds}
 use Rattle.label.specs.declared.Label.{Label}
 use Rattle.label.specs.Packet.{readerRows, readingOf, labelIn}
@@ -18,7 +19,7 @@ use Rattle.rule.specs.declared.Booking.{Booking}
 use Rattle.rule.specs.declared.Copy.the-variants.{Waiting}
 use Rattle.rule.specs.declared.Timer.{Timer}
 use Rattle.desk.specs.declared.Desk.{Desk}
-use Rattle.sixteen.specs.Sixteen.{isNowhere, slotOf, count}
+use Rattle.sixteen.specs.Sixteen.{isNowhere, slotOf}
 use Rattle.desk.specs.Calls.{Told, tunerRows, labelRows, hearingAt, packetOf, roomIn, withLabel, withTimer, addRows, addOf}
 use Rattle.desk.specs.Moments.{moment, clockedAt, nextSecond, walk, passTo, liveCount}
 use Rattle.desk.specs.Numbers.{leftBy}
@@ -99,14 +100,6 @@ small-answer tuner t bytes d =
         first-holds (λ x. number (andThen x heard) ≤ 16) (labelIn bytes) (readerRows bytes) (omega arith) (λ none. small-heard (labelIn bytes))
 
 -- ── counts ─────────────────────────────────────────────────────────────────────────────────────────────────────────
-count-length : {A : Type 0} (f : A → Bool) (xs : List A) → count f xs ≤ length xs
-count-length f [] = omega arith
-count-length f (x ∷ xs) = go (f x) (count-length f xs)
-  where
-    go : (b : Bool) → count f xs ≤ length xs → cond b 1 0 + count f xs ≤ suc (length xs)
-    go true h = omega arith
-    go false h = omega arith
-
 pub live-inside : (d : Desk) → liveCount d ≤ length (d .timers)
 unfolding liveCount
 live-inside d = count-length liveTimer (d .timers)

@@ -8,7 +8,7 @@ use native.Mathlib.Numerals.{add-one}
 use mir.Val.{boolByte}
 use lib.ListN.{length, getD, drop, drop-of-length-le}
 use lib.Seq.{drop-cons}
-use Rattle.sixteen.specs.Sixteen.{count}
+use Rattle.answer.specs.Lists.{count}
 
 bit : (b : Bool) → boolByte b ≡ cond b 1 0
 bit true = refl

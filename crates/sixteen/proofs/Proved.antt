@@ -2,10 +2,10 @@
 use mathlib.Core.Bool.{_&&_}
 use mathlib.Core.List.{map}
 use lib.ListN.{getD, set}
-use Rattle.answer.specs.Lists.{some}
+use Rattle.answer.specs.Lists.{some, count}
 use Rattle.answer.proofs.Answers.{equation}
 use Rattle.rule.specs.Rule.{liveTimer, nextTimer}
-use Rattle.sixteen.specs.Sixteen.{noTimer, active, sameBooking, roomAt, slotOf, count}
+use Rattle.sixteen.specs.Sixteen.{noTimer, active, sameBooking, roomAt, slotOf}
 use Rattle.sixteen.specs.Laws.{Laws}
 
 pub laws : Laws

@@ -6,12 +6,12 @@ use mathlib.Core.List.{List, map}
 use lib.Dec.{leb}
 use lib.ListN.{getD, set}
 use Rattle.answer.specs.Answer.{Unique}
-use Rattle.answer.specs.Lists.{some}
+use Rattle.answer.specs.Lists.{some, count}
 use Rattle.rule.specs.declared.Stamped.{Stamped}
 use Rattle.rule.specs.declared.Booking.{Booking}
 use Rattle.rule.specs.declared.Timer.{Timer}
 use Rattle.rule.specs.Rule.{liveTimer, nextTimer}
-use Rattle.sixteen.specs.Sixteen.{noTimer, active, sameBooking, roomAt, isNowhere, slotOf, count}
+use Rattle.sixteen.specs.Sixteen.{noTimer, active, sameBooking, roomAt, isNowhere, slotOf}
 
 pub record Laws : Type 0 where
   pub no-timer-unique : Unique (λ r. r ≡ noTimer)

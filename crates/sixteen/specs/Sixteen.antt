@@ -1,6 +1,6 @@
 -- The sixteen slots as a list (document 01, 'Timers and calls'): free ones, held ones, and the one that a new timer gets.
-use Prim.Native.Nat.{ℕ, _+_}
-use mathlib.Core.Bool.{Bool, true, false, cond, not, _&&_}
+use Prim.Native.Nat.{ℕ}
+use mathlib.Core.Bool.{Bool, true, false, not, _&&_}
 use mathlib.Core.List.{List, [], _∷_}
 use lib.Dec.{eqb}
 use Rattle.rule.specs.Rule.{endedAt, held, Found, nowhere, at, lowest}
@@ -36,8 +36,3 @@ isNowhere (at i) = false
 abbrev pub slotOf : Found → ℕ
 slotOf nowhere = 16
 slotOf (at i) = i
-
--- how many pass a test, for 'the count of live timers'
-abbrev pub count : {A : Type 0} → (A → Bool) → List A → ℕ
-count f [] = 0
-count f (x ∷ xs) = cond (f x) 1 0 + count f xs

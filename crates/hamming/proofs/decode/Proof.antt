@@ -1,20 +1,20 @@
--- `decode` tries the byte's own data bits and their four flips. The invariant: none of the values tried so far is near.
+-- `decode` first compares the byte with the good byte of its own data bits, then tries these and their four flips. The invariant: none of
+-- the values tried so far is near.
 use borrow.Author.Needs.{needs}
 use borrow.Author.Count.{below-none, below-more}
 use Prim.Native.Nat.{ℕ, _-_, _≤_, _<_}
 use native.Mathlib.Omega.{arith}
 use mathlib.Core.Path.{_≡_, sym}
 use mathlib.Core.Bool.{false}
-use Rattle.hamming.specs.Byte.{nearTo}
-use Rattle.hamming.proofs.Bytes.{tried, hit, miss, none-near}
+use Rattle.hamming.proofs.Bytes.{near, hit-own, hit, miss, none-near}
 use Rattle.hamming.proofs.decode.Statement.{statement}
 use Rattle.hamming.proofs.decode.Tie as tie
 
 abbrev Inv-loop : tie.InvT-loop
-Inv-loop b own i₀ i = (i ≤ 5) × ((k : ℕ) → k < i → nearTo b (tried b k) ≡ false)
+Inv-loop b own g i₀ i = (i ≤ 5) × ((k : ℕ) → k < i → near b k ≡ false)
 
 abbrev μ-loop : tie.MeasureT-loop
-μ-loop b own i₀ i = 5 - i
+μ-loop b own g i₀ i = 5 - i
 
 mul-own : tie.Need-mul-own Inv-loop μ-loop
 mul-own c = search needs
@@ -34,6 +34,12 @@ mul-own-3 c = search needs
 add-own-3 : tie.Need-add-own-3 Inv-loop μ-loop
 add-own-3 c = search needs
 
+good-byte-requires : tie.Need-good-byte-requires Inv-loop μ-loop
+good-byte-requires c κs = search needs
+
+returns : tie.Need-returns Inv-loop μ-loop
+returns c = hit-own (c .before .before .args .b) (search needs) (c .before .good-byte .ensures) (c .if1 .taken)
+
 loop-holds : tie.Need-loop-holds Inv-loop μ-loop
 loop-holds c = (search needs, below-none _)
 
@@ -43,10 +49,11 @@ array-read-v c = search needs
 near-requires : tie.Need-near-requires Inv-loop μ-loop
 near-requires c κs = search needs
 
-returns : tie.Need-returns Inv-loop μ-loop
-returns c =
-    hit (c .before .before .before .before .args .b) (c .before .before .before .loop .i) _ (search needs) (search needs) (c .before .near .ensures)
-    (c .if1 .taken)
+returns-2 : tie.Need-returns-2 Inv-loop μ-loop
+returns-2 c =
+    let s = c .before .before .before in
+    let g = s .before .before in
+    hit (g .before .args .b) (s .loop .i) (search needs) (search needs) (c .before .near .ensures) (g .good-byte .ensures) (s .before .if1 .left) (c .if2 .taken)
 
 add-i : tie.Need-add-i Inv-loop μ-loop
 add-i c = search needs
@@ -55,18 +62,18 @@ loop-less : tie.Need-loop-less Inv-loop μ-loop
 loop-less c = search needs
 
 loop-again : tie.Need-loop-again Inv-loop μ-loop
-loop-again c = (
-  search needs,
-  below-more _ _ (c .before .before .before .loop .inv .1)
-      (miss (c .before .before .before .before .args .b) (c .before .before .before .loop .i) _ (search needs) (search needs) (c .before .near .ensures)
-      (c .if1 .left)),
-)
+loop-again c =
+    let s = c .before .before .before in (
+      search needs,
+      below-more _ _ (s .loop .inv .1)
+          (miss (s .before .before .before .args .b) (s .loop .i) (search needs) (search needs) (c .before .near .ensures) (c .if2 .left)),
+    )
 
-returns-2 : tie.Need-returns-2 Inv-loop μ-loop
-returns-2 c =
-    let i = c .before .loop .i in
-    let e : i ≡ 5 = omega arith in
-    sym (none-near (c .before .before .args .b) (search needs) (λ k h. c .before .loop .inv .1 k (omega arith)))
+returns-3 : tie.Need-returns-3 Inv-loop μ-loop
+returns-3 c =
+    let s = c .before in
+    let e : s .loop .i ≡ 5 = omega arith in
+    sym (none-near (s .before .before .before .args .b) (search needs) (λ k h. s .loop .inv .1 k (omega arith)))
 
 pub decode-spec : {M : Type 1} → statement M
 decode-spec =
@@ -80,11 +87,13 @@ decode-spec =
     add-own-2
     mul-own-3
     add-own-3
+    good-byte-requires
+    returns
     loop-holds
     array-read-v
     near-requires
-    returns
+    returns-2
     add-i
     loop-less
     loop-again
-    returns-2)
+    returns-3)

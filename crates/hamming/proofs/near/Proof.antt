@@ -1,6 +1,6 @@
 -- `near` counts the ones of an exclusive or, which are the bits that differ.
 use borrow.Author.Needs.{needs}
-use Rattle.hamming.specs.Byte.{nearTo, distance}
+use Rattle.hamming.specs.Byte.{distance}
 use Rattle.hamming.proofs.Ones.{xor-apart}
 use Rattle.hamming.proofs.near.Statement.{statement}
 use Rattle.hamming.proofs.near.Tie as tie
@@ -9,7 +9,7 @@ good-byte-requires : tie.Need-good-byte-requires
 good-byte-requires c κs = search needs
 
 returns : tie.Need-returns
-unfolding nearTo distance
+unfolding distance
 returns c = rw (xor-apart 8 (c .before .args .b) (c .good-byte .result) (search needs) (search needs), c .good-byte .ensures)
 
 pub near-spec : {M : Type 1} → statement M

@@ -1,4 +1,4 @@
--- `probe_read` answers as the reader does, where its buffer has thirteen bytes.
+-- `probe_read` answers as the reader does, where its buffer has fourteen bytes.
 use borrow.Author.Needs.{needs}
 use mathlib.Core.Path.{refl, sym, ap, _∙_}
 use Rattle.label.specs.Packet.{readingAnswer}

@@ -1,34 +1,36 @@
 -- `nibbles` goes through bytes 9 to 21. The invariant: the number is that of the bits of the bytes from 9 up to i,
--- and `damaged` says whether one of these bytes is damaged.
+-- `damaged` says whether one of these bytes is damaged, and `mended` how many are mended.
 use borrow.Author.Needs.{needs}
 use Prim.Native.Nat.{ℕ, _-_, _^_, _≤_, _<_}
 use mathlib.Core.Path.{_≡_, refl, ap, _∙_}
 use native.Mathlib.Omega.{arith}
 use lib.ListN.{getD}
+use Rattle.answer.proofs.Counts.{bit-le}
 use Rattle.label.specs.Layout.{bitAt}
 use Rattle.label.specs.Number.{numberBy}
-use Rattle.answer.specs.Lists.{some}
-use Rattle.label.specs.Packet.{valueAt, damagedAt}
+use Rattle.answer.specs.Lists.{some, count}
+use Rattle.label.specs.Packet.{valueAt, damagedAt, mendedAt}
 use Rattle.label.proofs.Nibbles.{over, turned}
 use Rattle.label.proofs.Places.{bit-in}
 use Rattle.label.proofs.Sent.{number-run, run-room}
-use Rattle.label.proofs.Puts.{run, some-run}
+use Rattle.label.proofs.Puts.{run, some-run, count-run, count-room}
 use Rattle.reader.proofs.nibbles.Statement.{statement}
 use Rattle.reader.proofs.nibbles.Tie as tie
 
 abbrev Inv-loop : tie.InvT-loop
-Inv-loop bytes number₀ damaged₀ i₀ number damaged i =
+Inv-loop bytes number₀ damaged₀ mended₀ i₀ number damaged mended i =
     (9 ≤ i)
     × (i ≤ 22)
     × (damaged ≡ some (damagedAt bytes) (run 9 (i - 9)))
+    × (mended ≡ count (mendedAt bytes) (run 9 (i - 9)))
     × (number ≡ numberBy (bitAt (valueAt bytes)) (run 9 (i - 9)))
 
 abbrev μ-loop : tie.MeasureT-loop
-μ-loop bytes number₀ damaged₀ i₀ number damaged i = 22 - i
+μ-loop bytes number₀ damaged₀ mended₀ i₀ number damaged mended i = 22 - i
 
 loop-holds : tie.Need-loop-holds Inv-loop μ-loop
 unfolding numberBy
-loop-holds c = (search needs, search needs, refl, refl)
+loop-holds c = (search needs, search needs, refl, refl, refl)
 
 shared-slice-read-value : tie.Need-shared-slice-read-value Inv-loop μ-loop
 shared-slice-read-value c = search needs
@@ -41,10 +43,19 @@ room : (c : tie.After-value Inv-loop μ-loop) → c .before .before .before .loo
 room c =
     let p = c .before .before .before .before .before .args .bytes .now in
     let s = c .before .before .before .loop in
-    rw (s .inv .3) (run-room (bitAt (valueAt p)) (bit-in (valueAt p)) 9 (s .i - 9) (omega arith))
+    rw (s .inv .4) (run-room (bitAt (valueAt p)) (bit-in (valueAt p)) 9 (s .i - 9) (omega arith))
+
+add-mended : tie.Need-add-mended Inv-loop μ-loop
+add-mended c =
+    let d = c .before .before in
+    let p = d .before .before .before .before .before .args .bytes .now in
+    let s = d .before .before .before .loop in
+    let r = count-room (mendedAt p) 9 (s .i - 9) in
+    let b = bit-le (mendedAt p (s .i)) in
+    search needs
 
 mul-number : tie.Need-mul-number Inv-loop μ-loop
-mul-number c = let r = room c in search needs
+mul-number c = let r = room (c .before .before) in search needs
 
 turned-requires : tie.Need-turned-requires Inv-loop μ-loop
 turned-requires c κs = search needs
@@ -53,7 +64,7 @@ cast-number : tie.Need-cast-number Inv-loop μ-loop
 cast-number c = search needs
 
 add-number : tie.Need-add-number Inv-loop μ-loop
-add-number c = let r = room (c .before) in search needs
+add-number c = let r = room (c .before .before .before) in search needs
 
 add-i : tie.Need-add-i Inv-loop μ-loop
 add-i c = search needs
@@ -63,21 +74,26 @@ loop-less c = search needs
 
 loop-again : tie.Need-loop-again Inv-loop μ-loop
 loop-again c =
-    let p = c .before .before .before .before .before .before .args .bytes .now in
-    let s = c .before .before .before .before .loop in
-    let value = c .before .value .ensures in (
+    let v = c .before .before .before in
+    let p = v .before .before .before .before .before .args .bytes .now in
+    let s = v .before .before .before .loop in
+    let d = v .value .ensures in (
       search needs,
       search needs,
-      some-run (damagedAt p) 9 (s .i) (s .inv .0) (s .inv .2) (over (getD p (s .i) 0) value),
-      number-run (bitAt (valueAt p)) (bit-in (valueAt p)) 9 (s .i) (s .inv .0) (s .inv .3) (c .turned .ensures .0 ∙ ap turned value),
+      some-run (damagedAt p) 9 (s .i) (s .inv .0) (s .inv .2) (over (getD p (s .i) 0) (d .0)),
+      count-run (mendedAt p) 9 (s .i) (s .inv .0) (s .inv .3) (d .1),
+      number-run (bitAt (valueAt p)) (bit-in (valueAt p)) 9 (s .i) (s .inv .0) (s .inv .4) (c .turned .ensures .0 ∙ ap turned (d .0)),
     )
 
 returns : tie.Need-returns Inv-loop μ-loop
 returns c =
     let p = c .before .before .before .args .bytes .now in
     let s = c .before .loop in
-    let e : s .i ≡ 22 = omega arith in
-    (s .inv .2 ∙ ap (λ (n : ℕ). some (damagedAt p) (run 9 (n - 9))) e, s .inv .3 ∙ ap (λ (n : ℕ). numberBy (bitAt (valueAt p)) (run 9 (n - 9))) e)
+    let e : s .i ≡ 22 = omega arith in (
+      s .inv .2 ∙ ap (λ (n : ℕ). some (damagedAt p) (run 9 (n - 9))) e,
+      s .inv .3 ∙ ap (λ (n : ℕ). count (mendedAt p) (run 9 (n - 9))) e,
+      s .inv .4 ∙ ap (λ (n : ℕ). numberBy (bitAt (valueAt p)) (run 9 (n - 9))) e,
+    )
 
 pub nibbles-spec : {M : Type 1} → statement M
 nibbles-spec =
@@ -88,6 +104,7 @@ nibbles-spec =
     loop-holds
     shared-slice-read-value
     value-requires
+    add-mended
     mul-number
     turned-requires
     cast-number

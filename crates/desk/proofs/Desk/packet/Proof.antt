@@ -1,5 +1,6 @@
 -- `Gate` carries it: what `barred` answers is the first of 8, 9 and 10 that applies; the reader's refusals and the label follow.
 use mathlib.Core.Path.{refl}
+use Rattle.label.proofs.Mended.{label-read}
 use Rattle.desk.specs.Calls.{packetOf}
 use Rattle.desk.proofs.Gate.{gate-shut, gate-open, hearing-open}
 use borrow.Author.Needs.{needs}
@@ -52,7 +53,7 @@ returns-2 c =
     let a = b .before .before .args in
     rw (
       gate-open (a .self) (a .bytes .now) (a .self) (a .tuner) (a .time) (b .barred .ensures) (o .enum-told .given .1),
-      ← r .read .ensures .0,
+      ← label-read (a .bytes .now) (r .read .ensures .0),
       k .reading .given .1,
       c .refuse2 .ensures,
     )
@@ -65,11 +66,11 @@ returns-3 c =
     let o = r .before in
     let b = o .before .before in
     let a = b .before .before .args in
-    let l = c .before .before .reading2 .given .0 .0 in
+    let l = c .before .before .reading2 .given .0 .0 .label in
     let e = gate-open (a .self) l (a .self) (a .tuner) (a .time) (b .barred .ensures) (o .enum-told .given .1) in
     rw (
       gate-open (a .self) (a .bytes .now) (a .self) (a .tuner) (a .time) (b .barred .ensures) (o .enum-told .given .1),
-      ← r .read .ensures .0,
+      ← label-read (a .bytes .now) (r .read .ensures .0),
       c .before .before .reading2 .given .1,
     )
     (rw (hearing-open (a .tuner) (a .time) l (a .self) e) at (c .hear .ensures), refl)

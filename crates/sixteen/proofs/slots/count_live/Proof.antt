@@ -6,8 +6,9 @@ use native.Mathlib.Omega.{arith}
 use mir.Val.{boolByte}
 use lib.ListN.{length, drop}
 use borrow.Author.Needs.{needs}
+use Rattle.answer.specs.Lists.{count}
 use Rattle.rule.specs.Rule.{liveTimer}
-use Rattle.sixteen.specs.Sixteen.{noTimer, count}
+use Rattle.sixteen.specs.Sixteen.{noTimer}
 use Rattle.sixteen.proofs.Counts.{bit-le, count-more, count-none}
 use Rattle.sixteen.proofs.slots.count_live.Statement.{statement}
 use Rattle.sixteen.proofs.slots.count_live.Tie as tie
