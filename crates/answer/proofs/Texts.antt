@@ -1,10 +1,11 @@
 -- Texts stored one after the other are their concatenation stored at once; how long a number is as text.
-use Prim.Native.Nat.{ℕ, zero, suc, _+_, _/_, _≤_}
+use Prim.Native.Nat.{ℕ, zero, suc, _+_, _-_, _/_, _≤_, _<_}
 use mathlib.Core.Bool.{Bool, true, false, cond}
 use mathlib.Core.Path.{_≡_, sym, _∙_}
 use mathlib.Core.List.{List, [], _∷_, _++_}
 use native.Mathlib.Nat.{add-zero, add-suc, suc-add}
 use native.Mathlib.Omega.{arith}
+use borrow.Author.Tests.{lt-ltb, le-ltb}
 use lib.Dec.{ltb}
 use lib.ListN.{length, set, length-append}
 use lib.Seq.{sets}
@@ -28,3 +29,18 @@ decimal-short (suc k) n = go (ltb n 10) (decimal-short k (n / 10))
     go : (t : Bool) → length (decimalIn k (n / 10)) ≤ k → length (cond t (digit n ∷ []) (decimalIn k (n / 10) ++ (digit n ∷ []))) ≤ suc k
     go true h = omega arith
     go false h = omega (arith, length-append (decimalIn k (n / 10)) (digit n ∷ []))
+
+-- a number in decimal by its last digit
+pub no-digit : (k n : ℕ) → k ≡ 0 → decimalIn k n ≡ []
+unfolding decimalIn
+no-digit k n e = rw e
+
+pub last-digit : (k n : ℕ) → 0 < k → n < 10 → decimalIn k n ≡ digit n ∷ []
+unfolding decimalIn
+last-digit zero n h l = absurd (omega arith)
+last-digit (suc k) n h l = rw (lt-ltb n 10 l)
+
+pub more-digits : (k n : ℕ) → 0 < k → 10 ≤ n → decimalIn k n ≡ decimalIn (k - 1) (n / 10) ++ (digit n ∷ [])
+unfolding decimalIn
+more-digits zero n h l = absurd (omega arith)
+more-digits (suc k) n h l = let e : suc k - 1 ≡ k = omega arith in rw (le-ltb n 10 l, e)

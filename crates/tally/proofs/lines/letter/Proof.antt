@@ -1,0 +1,12 @@
+-- `letter`: `Z` where the input is whole, and `X` elsewhere.
+use Rattle.tally.proofs.lines.letter.Statement.{statement}
+use Rattle.tally.proofs.lines.letter.Tie as tie
+
+returns : tie.Need-returns
+returns c = rw (c .if1 .taken)
+
+returns-2 : tie.Need-returns-2
+returns-2 c = rw (c .if1 .left)
+
+pub letter-spec : {M : Type 1} → statement M
+letter-spec = tie.close (tie.spec returns returns-2)

@@ -1,0 +1,26 @@
+-- `put_number`: a space, and then a number of at most ten digits.
+use borrow.Author.Needs.{needs}
+use mathlib.Core.List.{[], _∷_}
+use Rattle.answer.specs.Text.{space, decimalIn}
+use Rattle.answer.proofs.Texts.{then}
+use Rattle.tally.proofs.lines.put_number.Statement.{statement}
+use Rattle.tally.proofs.lines.put_number.Tie as tie
+
+put-requires : tie.Need-put-requires
+put-requires c κs = search needs
+
+put-decimal-requires : tie.Need-put-decimal-requires
+put-decimal-requires c κs = search needs
+
+same-length : tie.Need-same-length
+same-length c = search needs
+
+returns : tie.Need-returns
+returns c =
+    let last = c .before .before in
+    let first = last .before .before .before .before in
+    let a = first .before .before .before .args in
+    then (a .out .now) (a .at) (space ∷ []) (decimalIn 10 (a .n)) (first .put .ensures) (last .put-decimal .ensures)
+
+pub put-number-spec : {M : Type 1} → statement M
+put-number-spec = tie.close (tie.spec put-requires put-decimal-requires same-length returns)

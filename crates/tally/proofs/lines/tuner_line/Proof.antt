@@ -1,0 +1,23 @@
+-- `tuner_line`: nothing of a tuner that no packet came from.
+use borrow.Author.Needs.{needs}
+use mathlib.Core.Path.{refl}
+use native.Mathlib.Nat.{add-zero}
+use Rattle.tally.proofs.lines.tuner_line.Statement.{statement}
+use Rattle.tally.proofs.lines.tuner_line.Tie as tie
+
+returns : tie.Need-returns
+returns c = rw (c .if1 .taken, add-zero) (refl, refl)
+
+a-line-requires : tie.Need-a-line-requires
+a-line-requires c κs = search needs
+
+same-length : tie.Need-same-length
+same-length c = search needs
+
+returns-2 : tie.Need-returns-2
+returns-2 c =
+    let line = c .before .before in
+    rw (line .before .before .if1 .left) (line .a-line .ensures)
+
+pub tuner-line-spec : {M : Type 1} → statement M
+tuner-line-spec = tie.close (tie.spec returns a-line-requires same-length returns-2)

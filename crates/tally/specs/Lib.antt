@@ -1,0 +1,3 @@
+pub mod Aerial
+pub mod Pieces
+pub mod Laws
