@@ -7,7 +7,7 @@ use native.Mathlib.Omega.{arith}
 use native.Mathlib.Nat.{mod-eq-of-lt}
 use borrow.Author.Tests.{ne-eqb, leb-true}
 use lib.Dec.{T, eqb, leb, ltb, eqb→eq, leb→le, ltb→lt}
-use lib.Bits.{bitXor, xor-lt}
+use lib.Bits.{bitAnd, bitOr, bitXor, and-le-r, xor-lt}
 use lib.ListN.{getD}
 use Rattle.answer.proofs.All.{below, each, all-below, unless, asked}
 use Rattle.hamming.specs.Byte.{D, good, values, table, distance, away, nearest, nibbleOf}
@@ -153,8 +153,11 @@ clean-good b v h e = let o = only-clean b v e in distance-none b (good v) h (goo
 
 -- ── the search of `decode` ─────────────────────────────────────────────────────────────────────────────────────────
 -- the value of a byte's own data bits
+abbrev halves : ℕ → ℕ
+halves b = let pairs = bitAnd (b / 2) 0x55 in bitAnd (bitOr pairs (pairs / 2)) 0x33
+
 abbrev own : ℕ → ℕ
-own b = b / 2 % 2 + b / 8 % 2 * 2 + b / 32 % 2 * 4 + b / 128 * 8
+own b = bitAnd (bitOr (halves b) (halves b / 4)) 0x0F
 
 abbrev flips : List ℕ
 flips = 0 ∷ 1 ∷ 2 ∷ 4 ∷ 8 ∷ []
@@ -163,11 +166,11 @@ flips = 0 ∷ 1 ∷ 2 ∷ 4 ∷ 8 ∷ []
 abbrev pub tried : ℕ → ℕ → ℕ
 tried b i = bitXor (own b) (getD flips i 0)
 
-four-small : (p q r s : ℕ) → p < 2 → q < 2 → r < 2 → s < 2 → p + q * 2 + r * 4 + s * 8 < 16
-four-small p q r s h₁ h₂ h₃ h₄ = omega arith
-
-own-small : (b : ℕ) → b < 256 → own b < 16
-own-small b h = four-small (b / 2 % 2) (b / 8 % 2) (b / 32 % 2) (b / 128) (omega arith) (omega arith) (omega arith) (omega arith)
+own-small : (b : ℕ) → own b < 16
+own-small b = below-16 (and-le-r (bitOr (halves b) (halves b / 4)) 0x0F)
+  where
+    below-16 : {n : ℕ} → n ≤ 15 → n < 16
+    below-16 h = omega arith
 
 flip-small : ℕ → Bool
 flip-small i = ltb (getD flips i 0) 16
@@ -178,7 +181,7 @@ all-flips = tt
 
 tried-small : (b i : ℕ) → b < 256 → i < 5 → tried b i < 16
 unfolding flip-small
-tried-small b i p q = xor-lt 4 (own b) (getD flips i 0) (own-small b p) (ltb→lt _ 16 (each flip-small 5 all-flips i q))
+tried-small b i p q = xor-lt 4 (own b) (getD flips i 0) (own-small b) (ltb→lt _ 16 (each flip-small 5 all-flips i q))
 
 -- a good byte has the data bits of its value
 ownBits : ℕ → Bool
@@ -194,7 +197,7 @@ own-good v h = eqb→eq (own (good v)) v (each ownBits 16 all-own v h)
 
 -- so that a byte is clean exactly where it is the good byte of its own data bits
 pub hit-own : (b : ℕ) {g : ℕ} → b < 256 → g ≡ good (own b % 16) → b ≡ g → Clean (own b) ≡ nibbleOf b
-hit-own b p e h = let l = own-small b p in sym (ap nibbleOf (h ∙ e ∙ ap good (mod-eq-of-lt l)) ∙ sent (own b) l)
+hit-own b p e h = let l = own-small b in sym (ap nibbleOf (h ∙ e ∙ ap good (mod-eq-of-lt l)) ∙ sent (own b) l)
 
 -- whether the value tried at step i is near
 pub near : ℕ → ℕ → Bool

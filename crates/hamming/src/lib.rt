@@ -54,11 +54,14 @@ fn near(b: u8, v: u8) -> bool
     u8::count_ones(b ^ g) <= 1
 }
 
-// A byte that is the good byte of its own data bits is clean, which costs one look into the table.
+// A byte that is the good byte of its own data bits is clean, which costs one look into the table. The data bits are every other
+// bit, and two steps bring them together.
 pub fn decode(b: u8) -> Nibble
     ensures { λ r. ⌜ r ≡ nibbleOf b ⌝ }
 {
-    let own = (b / 2 % 2) + (b / 8 % 2) * 2 + (b / 32 % 2) * 4 + (b / 128) * 8;
+    let pairs = b / 2 & 0x55;
+    let halves = (pairs | pairs / 2) & 0x33;
+    let own = (halves | halves / 4) & 0x0F;
     let g = good_byte(own);
     if b == g {
         return Nibble::Clean(own);

@@ -17,12 +17,6 @@ use label::Received;
 use label::Refusal;
 use label::nibble::turned;
 
-// A byte's value, 16 for a damaged one, and 1 for a mended one.
-struct Decoded {
-    value: u8,
-    mended: u8,
-}
-
 // Bytes 9 to 21 as one number of 52 bits, the first sent highest, whether one of them is damaged, and how many are mended.
 struct Sent {
     damaged: bool,
@@ -30,23 +24,25 @@ struct Sent {
     number: u64,
 }
 
-fn value(b: u8) -> Decoded
-    ensures { λ r. ⌜ (r .value ≡ valueOf (nibbleOf b)) × (r .mended ≡ cond (eqb (away b) 1) 1 0) ⌝ }
+// 16 for a damaged byte.
+fn value(n: Nibble) -> u8
+    ensures { λ r. ⌜ r ≡ valueOf n ⌝ }
 {
-    let n = hamming::decode(b);
     match n {
-        Nibble::Damaged => Decoded {
-            value: 16,
-            mended: 0,
-        },
-        Nibble::Clean(v) => Decoded {
-            value: v,
-            mended: 0,
-        },
-        Nibble::Mended(v) => Decoded {
-            value: v,
-            mended: 1,
-        },
+        Nibble::Damaged => 16,
+        Nibble::Clean(v) => v,
+        Nibble::Mended(v) => v,
+    }
+}
+
+// 1 for a mended byte, and 0 for another.
+fn mends(n: Nibble) -> u8
+    ensures { λ r. ⌜ ((b : ℕ) → n ≡ nibbleOf b → r ≡ cond (eqb (away b) 1) 1 0) ⌝ }
+{
+    match n {
+        Nibble::Damaged => 0,
+        Nibble::Clean(_) => 0,
+        Nibble::Mended(_) => 1,
     }
 }
 
@@ -61,10 +57,11 @@ fn nibbles(bytes: &[u8]) -> Sent
     let mut mended: u8 = 0;
     let mut i: usize = 9;
     while i < 22 {
-        let d = value(bytes[i]);
-        damaged = damaged | (15 < d.value);
-        mended = mended + d.mended;
-        number = number * 16 + turned(d.value) as u64;
+        let n = hamming::decode(bytes[i]);
+        let v = value(n);
+        damaged = damaged | (15 < v);
+        mended = mended + mends(n);
+        number = number * 16 + turned(v) as u64;
         i += 1;
     }
     Sent {
@@ -112,27 +109,30 @@ pub fn read(bytes: &[u8]) -> Reading
     if bytes.len() != 42 {
         return Reading::Refused(Refusal::Length);
     }
-    let d0 = value(bytes[0]);
-    let d1 = value(bytes[1]);
-    if (15 < d0.value) | (15 < d1.value) {
+    let n0 = hamming::decode(bytes[0]);
+    let v0 = value(n0);
+    let n1 = hamming::decode(bytes[1]);
+    let v1 = value(n1);
+    if (15 < v0) | (15 < v1) {
         return Reading::Refused(Refusal::AddressDamaged);
     }
-    if !((d0.value == 0) & (d1.value == 15)) {
+    if !((v0 == 0) & (v1 == 15)) {
         return Reading::Refused(Refusal::OtherPacket);
     }
-    let d2 = value(bytes[2]);
-    if 15 < d2.value {
+    let n2 = hamming::decode(bytes[2]);
+    let v2 = value(n2);
+    if 15 < v2 {
         return Reading::Refused(Refusal::DesignationDamaged);
     }
-    if !((d2.value == 2) | (d2.value == 3)) {
+    if !((v2 == 2) | (v2 == 3)) {
         return Reading::Refused(Refusal::OtherDesignation);
     }
     let sent = nibbles(bytes);
     if sent.damaged {
         return Reading::Refused(Refusal::LabelDamaged);
     }
-    let l = label_of(d2.value, sent.number);
-    let first = d0.mended + d1.mended + d2.mended;
+    let l = label_of(v2, sent.number);
+    let first = mends(n0) + mends(n1) + mends(n2);
     let count = first + sent.mended;
     Reading::Read(Received {
         label: l,

@@ -11,28 +11,10 @@ use Rattle.hamming.proofs.decode.Statement.{statement}
 use Rattle.hamming.proofs.decode.Tie as tie
 
 abbrev Inv-loop : tie.InvT-loop
-Inv-loop b own g i₀ i = (i ≤ 5) × ((k : ℕ) → k < i → near b k ≡ false)
+Inv-loop b pairs halves own g i₀ i = (i ≤ 5) × ((k : ℕ) → k < i → near b k ≡ false)
 
 abbrev μ-loop : tie.MeasureT-loop
-μ-loop b own g i₀ i = 5 - i
-
-mul-own : tie.Need-mul-own Inv-loop μ-loop
-mul-own c = search needs
-
-add-own : tie.Need-add-own Inv-loop μ-loop
-add-own c = search needs
-
-mul-own-2 : tie.Need-mul-own-2 Inv-loop μ-loop
-mul-own-2 c = search needs
-
-add-own-2 : tie.Need-add-own-2 Inv-loop μ-loop
-add-own-2 c = search needs
-
-mul-own-3 : tie.Need-mul-own-3 Inv-loop μ-loop
-mul-own-3 c = search needs
-
-add-own-3 : tie.Need-add-own-3 Inv-loop μ-loop
-add-own-3 c = search needs
+μ-loop b pairs halves own g i₀ i = 5 - i
 
 good-byte-requires : tie.Need-good-byte-requires Inv-loop μ-loop
 good-byte-requires c κs = search needs
@@ -81,12 +63,6 @@ decode-spec =
     (tie.spec
     Inv-loop
     μ-loop
-    mul-own
-    add-own
-    mul-own-2
-    add-own-2
-    mul-own-3
-    add-own-3
     good-byte-requires
     returns
     loop-holds

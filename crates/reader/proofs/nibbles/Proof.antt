@@ -9,7 +9,7 @@ use Rattle.answer.proofs.Counts.{bit-le}
 use Rattle.label.specs.Layout.{bitAt}
 use Rattle.label.specs.Number.{numberBy}
 use Rattle.answer.specs.Lists.{some, count}
-use Rattle.label.specs.Packet.{valueAt, damagedAt, mendedAt}
+use Rattle.label.specs.Packet.{valueOf, valueAt, damagedAt, mendedAt}
 use Rattle.label.proofs.Nibbles.{over, turned}
 use Rattle.label.proofs.Places.{bit-in}
 use Rattle.label.proofs.Sent.{number-run, run-room}
@@ -32,14 +32,20 @@ loop-holds : tie.Need-loop-holds Inv-loop μ-loop
 unfolding numberBy
 loop-holds c = (search needs, search needs, refl, refl, refl)
 
-shared-slice-read-value : tie.Need-shared-slice-read-value Inv-loop μ-loop
-shared-slice-read-value c = search needs
+shared-slice-read-decode : tie.Need-shared-slice-read-decode Inv-loop μ-loop
+shared-slice-read-decode c = search needs
+
+decode-requires : tie.Need-decode-requires Inv-loop μ-loop
+decode-requires c κs = search needs
 
 value-requires : tie.Need-value-requires Inv-loop μ-loop
 value-requires c κs = search needs
 
+mends-requires : tie.Need-mends-requires Inv-loop μ-loop
+mends-requires c κs = search needs
+
 -- another nibble finds room
-room : (c : tie.After-value Inv-loop μ-loop) → c .before .before .before .loop .number < 16 ^ 12
+room : (c : tie.After-decode Inv-loop μ-loop) → c .before .before .before .loop .number < 16 ^ 12
 room c =
     let p = c .before .before .before .before .before .args .bytes .now in
     let s = c .before .before .before .loop in
@@ -52,6 +58,7 @@ add-mended c =
     let s = d .before .before .before .loop in
     let r = count-room (mendedAt p) 9 (s .i - 9) in
     let b = bit-le (mendedAt p (s .i)) in
+    let m = c .mends .ensures (getD p (s .i) 0) (d .decode .ensures) in
     search needs
 
 mul-number : tie.Need-mul-number Inv-loop μ-loop
@@ -74,15 +81,15 @@ loop-less c = search needs
 
 loop-again : tie.Need-loop-again Inv-loop μ-loop
 loop-again c =
-    let v = c .before .before .before in
-    let p = v .before .before .before .before .before .args .bytes .now in
-    let s = v .before .before .before .loop in
-    let d = v .value .ensures in (
+    let d = c .before .before .before in
+    let p = d .before .before .before .before .before .args .bytes .now in
+    let s = d .before .before .before .loop in
+    let v = c .before .before .value .ensures ∙ ap valueOf (d .decode .ensures) in (
       search needs,
       search needs,
-      some-run (damagedAt p) 9 (s .i) (s .inv .0) (s .inv .2) (over (getD p (s .i) 0) (d .0)),
-      count-run (mendedAt p) 9 (s .i) (s .inv .0) (s .inv .3) (d .1),
-      number-run (bitAt (valueAt p)) (bit-in (valueAt p)) 9 (s .i) (s .inv .0) (s .inv .4) (c .turned .ensures .0 ∙ ap turned (d .0)),
+      some-run (damagedAt p) 9 (s .i) (s .inv .0) (s .inv .2) (over (getD p (s .i) 0) v),
+      count-run (mendedAt p) 9 (s .i) (s .inv .0) (s .inv .3) (c .before .mends .ensures (getD p (s .i) 0) (d .decode .ensures)),
+      number-run (bitAt (valueAt p)) (bit-in (valueAt p)) 9 (s .i) (s .inv .0) (s .inv .4) (c .turned .ensures .0 ∙ ap turned v),
     )
 
 returns : tie.Need-returns Inv-loop μ-loop
@@ -102,8 +109,10 @@ nibbles-spec =
     Inv-loop
     μ-loop
     loop-holds
-    shared-slice-read-value
+    shared-slice-read-decode
+    decode-requires
     value-requires
+    mends-requires
     add-mended
     mul-number
     turned-requires
