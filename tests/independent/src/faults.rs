@@ -297,7 +297,7 @@ pub fn read(bytes: &[u8], fault: Option<Fault>) -> Result<Label, u8> {
         Some(AddressValueFirst) if whole && paper::decode(p[0]).map_or(false, |v| v != 0) => return Err(3),
         _ => {}
     }
-    let label = paper::read(&p)?;
+    let (label, _) = paper::read(&p)?;
     match fault {
         Some(DesignationTwoOnly) if label.designation == 3 => Err(5),
         Some(SpareRefused) if label.spare == 1 => Err(6),
