@@ -3,6 +3,7 @@
 use crate::calendar;
 use crate::paper::{self, Label};
 
+/// A list of faults, each with what it says.
 macro_rules! faults {
     ($($name:ident: $what:expr,)*) => {
         #[derive(Clone, Copy, Debug, PartialEq, Eq)]
@@ -15,6 +16,7 @@ macro_rules! faults {
         }
     };
 }
+pub(crate) use faults;
 
 faults! {
     StandsFour: "a label stands for 4 seconds",
