@@ -1,6 +1,6 @@
 //! The compiled program tells of sheets how bad each tuner's aerial is, as the independent side does, byte for byte. That what is made
 //! at random has all that is counted, and shows every wrong reading, is tested in `tests/independent/tests/aerial.rs`.
-use against_the_world::compare::{equal, judged, many, own, Start};
+use against_the_world::compare::{equal, judged, own, Start};
 use against_the_world::program::{Given, AERIAL};
 use independent::{aerial, sheets};
 
@@ -10,7 +10,7 @@ fn same<F: Fn(usize) -> Vec<u8> + Sync>(start: &Start, count: usize, name: &str,
 
 #[test]
 fn ten_thousand_random_sheets() {
-    same(&many(AERIAL), sheets::SHEETS as usize, "sheet", |n| sheets::sheet(n as u64));
+    same(&Start::Shared(AERIAL), sheets::SHEETS as usize, "sheet", |n| sheets::sheet(n as u64));
 }
 
 /// The start that is shared hides nothing of the program's own.
@@ -22,7 +22,7 @@ fn random_sheets_with_a_start_for_each() {
 #[test]
 fn every_cut_of_a_long_sheet() {
     let whole = sheets::long(3, 12);
-    same(&many(AERIAL), whole.len() + 1, "cut at", |n| whole[..n].to_vec());
+    same(&Start::Shared(AERIAL), whole.len() + 1, "cut at", |n| whole[..n].to_vec());
 }
 
 #[test]

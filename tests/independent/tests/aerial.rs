@@ -26,13 +26,6 @@ fn every_fault_is_caught() {
     }
 }
 
-#[test]
-fn no_fault_no_difference() {
-    for sheet in random_sheets().take(200) {
-        assert_eq!(aerial::print_with(&sheet, None), aerial::print(&sheet));
-    }
-}
-
 /// In how many sheets each tuner has what is counted, or no line.
 #[derive(Debug, Default)]
 struct Seen {
