@@ -65,8 +65,8 @@ pub fn read(packets: &[Vec<u8>]) -> Vec<Reading> {
     lend("read", packets.iter().map(|packet| (&packet[..], &out[..]))).into_iter().map(reading).collect()
 }
 
-/// The answer where the bytes for a label are not thirteen, or those for a label and its count not fourteen: no number of the paper.
-pub const ANOTHER_LENGTH: u8 = 255;
+/// The answer where the bytes lent for a label, or for a label and the count, are more or fewer: no number of the paper.
+pub const WRONG_ROOM: u8 = 255;
 
 /// The same of one packet, into lent bytes of any length.
 pub fn read_into(packet: &[u8], outs: &[Vec<u8>]) -> Vec<(u8, Vec<u8>)> {

@@ -181,11 +181,11 @@ fn a_lent_buffer_of_another_length_is_left_alone() {
     let p = random.clean_packet();
     let outs: Vec<_> = (0..40).filter(|&room| room != 14).map(|room| random.bytes(room)).collect();
     for (before, own) in outs.iter().zip(ours::read_into(&p, &outs)) {
-        assert_eq!(own, (ours::ANOTHER_LENGTH, before.clone()));
+        assert_eq!(own, (ours::WRONG_ROOM, before.clone()));
     }
     // also where the packet itself would be refused
     for (before, own) in outs.iter().zip(ours::read_into(&p[..41], &outs)) {
-        assert_eq!(own, (ours::ANOTHER_LENGTH, before.clone()));
+        assert_eq!(own, (ours::WRONG_ROOM, before.clone()));
     }
 }
 
@@ -196,7 +196,7 @@ fn fields_of_another_length_are_not_written() {
     for length in [41, 42] {
         let before = random.bytes(length);
         for own in ours::write_from(&fields, &before) {
-            assert_eq!(own, (ours::ANOTHER_LENGTH, before.clone()));
+            assert_eq!(own, (ours::WRONG_ROOM, before.clone()));
         }
     }
 }
