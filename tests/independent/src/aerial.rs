@@ -1,4 +1,5 @@
 //! Tells how bad each tuner's aerial is: what the program `aerial` prints for a sheet's bytes.
+use crate::calendar::END;
 use crate::faults::faults;
 use crate::paper::{self, Nibble, Reading, HAMMING};
 use crate::sheet::{number, Input};
@@ -20,7 +21,7 @@ faults! {
     RefusedIsLeftOut: "a refused packet is not counted",
     BytesOfRefused: "the mended bytes of a refused packet are counted",
     LufIsRefused: "a packet of LUF 1 is counted as refused",
-    TimeIsAsked: "a packet whose time goes back is left out",
+    TimeIsAsked: "a packet whose time goes back or past the clock's end is left out",
     TunerFourTaken: "tuner 4 is taken for tuner 0",
     TunersPastThree: "tuners above 3 have lines too",
     TunersAsOne: "tuners are not told apart",
@@ -137,7 +138,7 @@ pub fn print_with(input: &[u8], fault: Option<Fault>) -> String {
             Some(TunersAsOne) if tuner < 4 => 0,
             _ => tuner,
         };
-        if fault != Some(TimeIsAsked) || time >= clock {
+        if fault != Some(TimeIsAsked) || (clock..=END).contains(&time) {
             clock = time;
             tuners[at as usize].hear(packet, fault);
         }
