@@ -86,7 +86,7 @@ fn packets_read_the_same() {
     let mut r = random::Random::new(30);
     for _ in 0..100_000 {
         let p = r.packet();
-        let expected = paper::read(&p).and_then(|label| {
+        let expected = paper::read(&p).and_then(|(label, _)| {
             if label.luf == 1 {
                 return Err(7);
             }

@@ -3,7 +3,7 @@ pub mod annex;
 pub mod command;
 pub mod compare;
 pub mod ours;
-pub mod play;
+pub mod program;
 pub mod rows;
 pub mod threads;
 pub mod walk;

@@ -1,6 +1,6 @@
 //! The calls that the crate `probe` exports, each made for many arguments at once: `tests/compiled/src/answers.rs` makes them.
 use crate::command::{compiled, printed, run};
-use independent::paper::Label;
+use independent::paper::{Label, Nibble, Reading};
 
 fn ask(call: &str, questions: &[u8]) -> Vec<u8> {
     printed(&run(&[compiled("answers"), String::from(call)]), questions)
@@ -13,10 +13,16 @@ fn answers<const N: usize>(call: &str, count: usize, questions: &[u8]) -> impl I
     (0..count).map(move |n| answers[N * n..N * n + N].try_into().unwrap())
 }
 
-/// The value of every byte, or none.
-pub fn decode_all() -> Vec<Option<u8>> {
+/// What every byte is worth.
+pub fn decode_all() -> Vec<Nibble> {
     let bytes: Vec<u8> = (0..=255).collect();
-    answers("decode", 256, &bytes).map(|[v]| (v < 16).then_some(v)).collect()
+    let nibble = |[answer]: [u8; 1]| match answer {
+        v @ 0..=15 => Nibble::Clean(v),
+        16 => Nibble::Damaged,
+        32..=47 => Nibble::Mended(answer - 32),
+        n => panic!("decode answers {n}"),
+    };
+    answers("decode", 256, &bytes).map(nibble).collect()
 }
 
 /// The good byte of every value, or the number of the refusal.
@@ -46,18 +52,21 @@ fn lend<'a>(call: &str, lent: impl Iterator<Item = (&'a [u8], &'a [u8])>) -> Vec
     lengths.into_iter().map(next).collect()
 }
 
-/// The label of each packet, or the number of the refusal.
-pub fn read(packets: &[Vec<u8>]) -> Vec<Result<Label, u8>> {
-    let out = [0; 13];
-    let label = |(answer, fields): (u8, Vec<u8>)| match answer {
-        0 => Ok(Label::from_fields(fields[..].try_into().unwrap())),
-        n => Err(n),
+/// The label of each packet and the count of its mended bytes, or the number of the refusal, which leaves the lent bytes as they were.
+pub fn read(packets: &[Vec<u8>]) -> Vec<Reading> {
+    let out = [0xAA; 14];
+    let reading = |(answer, given): (u8, Vec<u8>)| match answer {
+        0 => Ok((Label::from_fields(given[..13].try_into().unwrap()), given[13])),
+        n => {
+            assert_eq!(given, out, "refused with {n}");
+            Err(n)
+        }
     };
-    lend("read", packets.iter().map(|packet| (&packet[..], &out[..]))).into_iter().map(label).collect()
+    lend("read", packets.iter().map(|packet| (&packet[..], &out[..]))).into_iter().map(reading).collect()
 }
 
-/// The answer where the thirteen bytes of a label are not thirteen: no number of the paper.
-pub const NOT_THIRTEEN: u8 = 255;
+/// The answer where the bytes lent for a label, or for a label and the count, are more or fewer: no number of the paper.
+pub const WRONG_ROOM: u8 = 255;
 
 /// The same of one packet, into lent bytes of any length.
 pub fn read_into(packet: &[u8], outs: &[Vec<u8>]) -> Vec<(u8, Vec<u8>)> {

@@ -1,22 +1,31 @@
-//! The program comes to an end whatever it reads, and tells what it could not read or write.
+//! The programs come to an end whatever they read, and tell what they could not read or write.
 use against_the_world::command::{ended, file, WHOLE};
-use against_the_world::play::{told, Given};
-use independent::{sheet, teaching};
+use against_the_world::program::{Given, Program, AERIAL, PLAY};
+use independent::teaching;
 use std::sync::Mutex;
 
 /// The longest sheet, and one byte that is left over.
 const DECIDING: usize = 1 + 255 * 6 + 2 + 65_535 * 47 + 1;
 
-const INPUT: &str = "play: the input could not be read: ";
-const OUTPUT: &str = "play: the output could not be written: ";
+const PROGRAMS: [Program; 2] = [PLAY, AERIAL];
 
-/// `./play` is run once at a time: each run looks first whether the program is built.
-static PLAY: Mutex<()> = Mutex::new(());
+/// What a program says of input and of output.
+fn input(program: Program, why: &str) -> String {
+    format!("{}: the input could not be read: {why}\n", program.name)
+}
 
-/// A line of shell in the repository ends within a minute, with this status, and prints and says this.
-fn ends(line: &str, status: i32, printed: &str, said: &str) {
-    let _held = PLAY.lock().unwrap_or_else(|held| held.into_inner());
-    let script = format!("cd \"$1\" && {}", line.replace("./play", "timeout 60 ./play"));
+fn output(program: Program, why: &str) -> String {
+    format!("{}: the output could not be written: {why}\n", program.name)
+}
+
+/// `./play` or `./aerial` is run once at a time: each run looks first whether its program is built.
+static ONE: Mutex<()> = Mutex::new(());
+
+/// A line of shell in the repository, with `./it` for the program, ends within a minute, with this status, and prints and says this.
+fn ends(program: Program, line: &str, status: i32, printed: &str, said: &str) {
+    let _held = ONE.lock().unwrap_or_else(|held| held.into_inner());
+    let line = line.replace("./it", &format!("timeout 60 ./{}", program.name));
+    let script = format!("cd \"$1\" && {line}");
     let words = ["sh", "-c", &script, "sh", &file("").display().to_string()].map(String::from);
     let end = ended(&words, &[], WHOLE);
     assert_eq!(end.said, said, "{line}");
@@ -26,42 +35,63 @@ fn ends(line: &str, status: i32, printed: &str, said: &str) {
 
 #[test]
 fn zeros_without_end() {
-    ends("./play </dev/zero", 0, "X 0\n", "");
+    ends(PLAY, "./it </dev/zero", 0, "X 0\n", "");
+    ends(AERIAL, "./it </dev/zero", 0, "X\n", "");
 }
 
 #[test]
 fn other_bytes_without_end() {
-    ends(r"tr '\0' '\377' </dev/zero | ./play", 0, &sheet::play(&[0xFF; DECIDING]), "");
+    for it in PROGRAMS {
+        ends(it, r"tr '\0' '\377' </dev/zero | ./it", 0, &(it.expected)(&[0xFF; DECIDING]), "");
+    }
+}
+
+/// Of tuner 0, each refused for its address.
+#[test]
+fn packets_of_zeros_without_end() {
+    let sheet = [&[0, 255, 255][..], &[0; 65_535 * 47 + 1]].concat();
+    for it in PROGRAMS {
+        ends(it, r"{ printf '\0\377\377'; cat /dev/zero; } | ./it", 0, &(it.expected)(&sheet), "");
+    }
+    assert_eq!((AERIAL.expected)(&sheet), "A 0 0 0 0 65535\nX\n");
 }
 
 #[test]
 fn a_directory() {
-    ends("./play sheets", 1, "X 0\n", &format!("{INPUT}Is a directory\n"));
+    for it in PROGRAMS {
+        ends(it, "./it sheets", 1, &(it.expected)(&[]), &input(it, "Is a directory"));
+    }
 }
 
 #[test]
 fn a_closed_output() {
-    ends("./play sheets/whole_case.sheet >&-", 1, "", &format!("{OUTPUT}Bad file descriptor\n"));
+    for it in PROGRAMS {
+        ends(it, "./it sheets/whole_case.sheet >&-", 1, "", &output(it, "Bad file descriptor"));
+    }
 }
 
 /// At the last line, and on the way to it.
 #[test]
 fn a_full_disc() {
-    let said = format!("{OUTPUT}No space left on device\n");
-    ends("./play sheets/whole_case.sheet >/dev/full", 1, "", &said);
-    ends(r"tr '\0' '\377' </dev/zero | ./play >/dev/full", 1, "", &said);
+    for it in PROGRAMS {
+        let said = output(it, "No space left on device");
+        ends(it, "./it sheets/whole_case.sheet >/dev/full", 1, "", &said);
+        ends(it, r"tr '\0' '\377' </dev/zero | ./it >/dev/full", 1, "", &said);
+    }
 }
 
-/// Wherever a read fails, what came before it is played as short input: a whole sheet, too, since its end was not seen.
+/// Wherever a read fails, what came before it is taken as short input: a whole sheet, too, since its end was not seen.
 #[test]
 fn a_read_that_fails_after_every_byte() {
     let whole = teaching::lessons()[0].sheet();
     let cuts: Vec<&[u8]> = (0..=whole.len()).map(|n| &whole[..n]).collect();
     let given: Vec<Given> = cuts.iter().map(|cut| Given { error: 5, ..Given::whole(cut.to_vec()) }).collect();
-    let (printed, said) = told(&given);
-    let expected: Vec<String> = cuts.iter().map(|cut| sheet::play(cut).replace('Z', "X")).collect();
-    assert_eq!(printed, expected);
-    assert_eq!(said, format!("{INPUT}Input/output error\n").repeat(cuts.len()));
+    for it in PROGRAMS {
+        let (printed, said) = it.told(&given);
+        let expected: Vec<String> = cuts.iter().map(|cut| (it.expected)(cut).replace('Z', "X")).collect();
+        assert_eq!(printed, expected);
+        assert_eq!(said, input(it, "Input/output error").repeat(cuts.len()));
+    }
 }
 
 /// A read that is interrupted is tried again, up to a thousand times.
@@ -69,10 +99,12 @@ fn a_read_that_fails_after_every_byte() {
 fn reads_that_are_interrupted() {
     let whole = teaching::lessons()[0].sheet();
     let given = |interrupted| Given { interrupted, at_most: 13, ..Given::whole(whole.clone()) };
-    let (printed, said) = told(&[given(1), given(2), given(999)]);
-    assert_eq!(printed, vec![sheet::play(&whole); 3]);
-    assert_eq!(said, "");
-    let (printed, said) = told(&[given(1000)]);
-    assert_eq!(printed, ["X 0\n"]);
-    assert_eq!(said, format!("{INPUT}Interrupted system call\n"));
+    for it in PROGRAMS {
+        let (printed, said) = it.told(&[given(1), given(2), given(999)]);
+        assert_eq!(printed, vec![(it.expected)(&whole); 3]);
+        assert_eq!(said, "");
+        let (printed, said) = it.told(&[given(1000)]);
+        assert_eq!(printed, [(it.expected)(&[])]);
+        assert_eq!(said, input(it, "Interrupted system call"));
+    }
 }

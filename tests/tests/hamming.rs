@@ -5,14 +5,15 @@ use independent::paper;
 #[test]
 fn every_byte_as_the_paper_says() {
     for (b, own) in ours::decode_all().into_iter().enumerate() {
-        assert_eq!(own, paper::decode(b as u8), "byte {b:02X}");
+        assert_eq!(own, paper::nibble(b as u8), "byte {b:02X}");
     }
 }
 
+/// Expected difference: libzvbi has the value alone, and does not tell a clean byte from a mended one.
 #[test]
 fn every_byte_as_libzvbi_says() {
     for (b, own) in ours::decode_all().into_iter().enumerate() {
-        assert_eq!(own, zvbi::unham8(b as u8), "byte {b:02X}");
+        assert_eq!(own.value(), zvbi::unham8(b as u8), "byte {b:02X}");
     }
 }
 

@@ -18,29 +18,33 @@ fn packet_a() {
     let mut p: Vec<u8> = (0..hex.len() / 2).map(|i| u8::from_str_radix(&hex[2 * i..2 * i + 2], 16).unwrap()).collect();
     p.resize(42, 0x20);
     let label = Label { designation: 2, cni: 0x1D65, pil: 0x7BCDE, ..Label::default() };
-    assert_eq!(ours::read(&[p.clone()]), [Ok(label)]);
+    assert_eq!(ours::read(&[p.clone()]), [Ok((label, 0))]);
     assert_eq!(ours::write(&[(label, p.clone())]), [(0, p)]);
 }
 
 #[test]
 fn a_million_packets_as_the_paper_says() {
     let mut random = Random::new(830);
-    let mut answers = [0u32; 7];
+    let (mut refused, mut read) = ([0u32; 7], [0u32; 17]);
     for _ in 0..ROUNDS {
         let packets = many(ROUND, |_| random.packet());
         for (p, own) in packets.iter().zip(ours::read(&packets)) {
             let expected = paper::read(p);
             assert_eq!(own, expected, "{p:02X?}");
-            answers[expected.map_or_else(|e| e as usize, |_| 0)] += 1;
+            match expected {
+                Ok((_, mended)) => read[mended as usize] += 1,
+                Err(number) => refused[number as usize] += 1,
+            }
         }
     }
-    assert_eq!(answers.iter().sum::<u32>(), PACKETS);
-    // no answer is so rare that nothing was tried
-    assert!(answers.iter().all(|&seen| seen > PACKETS / 200), "{answers:?}");
+    assert_eq!(refused.iter().chain(&read).sum::<u32>(), PACKETS);
+    // no refusal and no count of mended bytes is so rare that nothing was tried
+    assert!(refused[1..].iter().chain(&read).all(|&seen| seen > PACKETS / 200), "{refused:?} {read:?}");
 }
 
-/// What libzvbi should give of a label. Expected difference: it has neither the spare bit nor the designation.
-fn of_label(l: Label) -> zvbi::Pid {
+/// What libzvbi should give of a label. Expected difference: it has neither the spare bit nor the designation, nor does it tell how
+/// many bytes were mended.
+fn of_reading((l, _): (Label, u8)) -> zvbi::Pid {
     zvbi::Pid {
         lci: l.lci,
         luf: l.luf,
@@ -69,7 +73,7 @@ fn the_same_packets_as_libzvbi_says() {
             p
         });
         for (p, own) in packets.iter().zip(ours::read(&packets)) {
-            assert_eq!(own.map(of_label).ok(), zvbi::read(p[..].try_into().unwrap()), "{p:02X?}");
+            assert_eq!(own.map(of_reading).ok(), zvbi::read(p[..].try_into().unwrap()), "{p:02X?}");
             match own {
                 Ok(_) => read += 1,
                 Err(6) => refused += 1,
@@ -98,7 +102,7 @@ fn a_million_labels_written() {
             assert_eq!(own, expected, "{label:?}");
             answers[answer as usize] += 1;
             if answer == 0 {
-                accepted.push(Ok(*label));
+                accepted.push(Ok((*label, 0)));
                 packets.push(own);
             } else {
                 assert_eq!(own, *before);
@@ -110,13 +114,22 @@ fn a_million_labels_written() {
     assert!([0, 1, 16].iter().all(|&a| answers[a] > PACKETS / 50), "{answers:?}");
 }
 
+/// With one wrong bit in each of some of the sixteen bytes, whichever they are, the label is the same, and so many are mended.
 #[test]
-fn one_wrong_bit_in_each_byte_reads_as_the_same() {
+fn one_wrong_bit_in_each_of_some_bytes() {
     let mut random = Random::new(84);
-    let clean = many(20_000, |_| random.clean_packet());
+    let clean = many(17 * 2_000, |_| random.clean_packet());
     let mut wrong = clean.clone();
-    wrong.iter_mut().for_each(|p| random.wrong_bits(p));
-    assert_eq!(ours::read(&wrong), ours::read(&clean));
+    wrong.iter_mut().enumerate().for_each(|(n, p)| random.wrong_bits_in(p, n % 17));
+    let mut read = [0; 17];
+    for (n, (own, clean)) in ours::read(&wrong).into_iter().zip(ours::read(&clean)).enumerate() {
+        assert_eq!(own, clean.map(|(label, mended)| (label, mended + (n % 17) as u8)), "{:02X?}", wrong[n]);
+        if let Ok((_, mended)) = clean {
+            assert_eq!(mended, 0);
+            read[n % 17] += 1;
+        }
+    }
+    assert!(read.iter().all(|&seen| seen > 1_500), "{read:?}");
 }
 
 #[test]
@@ -145,9 +158,13 @@ fn two_wrong_bits_in_one_byte_refuse_with_its_number() {
 }
 
 #[test]
-fn no_byte_but_the_sixteen_is_read() {
+fn no_byte_but_the_sixteen_is_read_or_counted() {
     let mut random = Random::new(42);
-    let packets = many(20_000, |_| random.clean_packet());
+    let packets = many(20_000, |n| {
+        let mut p = random.clean_packet();
+        random.wrong_bits_in(&mut p, n % 17);
+        p
+    });
     let others = many(20_000, |n| {
         let mut other = random.bytes(42);
         for &i in &HAMMING {
@@ -162,13 +179,13 @@ fn no_byte_but_the_sixteen_is_read() {
 fn a_lent_buffer_of_another_length_is_left_alone() {
     let mut random = Random::new(13);
     let p = random.clean_packet();
-    let outs: Vec<_> = (0..40).filter(|&room| room != 13).map(|room| random.bytes(room)).collect();
+    let outs: Vec<_> = (0..40).filter(|&room| room != 14).map(|room| random.bytes(room)).collect();
     for (before, own) in outs.iter().zip(ours::read_into(&p, &outs)) {
-        assert_eq!(own, (ours::NOT_THIRTEEN, before.clone()));
+        assert_eq!(own, (ours::WRONG_ROOM, before.clone()));
     }
     // also where the packet itself would be refused
     for (before, own) in outs.iter().zip(ours::read_into(&p[..41], &outs)) {
-        assert_eq!(own, (ours::NOT_THIRTEEN, before.clone()));
+        assert_eq!(own, (ours::WRONG_ROOM, before.clone()));
     }
 }
 
@@ -179,7 +196,7 @@ fn fields_of_another_length_are_not_written() {
     for length in [41, 42] {
         let before = random.bytes(length);
         for own in ours::write_from(&fields, &before) {
-            assert_eq!(own, (ours::NOT_THIRTEEN, before.clone()));
+            assert_eq!(own, (ours::WRONG_ROOM, before.clone()));
         }
     }
 }

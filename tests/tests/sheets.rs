@@ -3,10 +3,9 @@
 //! begin with such a jump.
 //! `tests/src/bin/play_sheets.rs` plays another number of them, and by another command.
 use against_the_world::compare::{compare, many, own, same};
-use against_the_world::play::{self, Given};
+use against_the_world::program::PLAY;
 use against_the_world::walk;
 use independent::desk::Desk;
-use independent::random::Random;
 use independent::{sheet, sheets};
 
 /// So many sheets are walked from the clock's start however long that is.
@@ -14,7 +13,7 @@ const LONG: usize = 2;
 
 #[test]
 fn ten_thousand_random_sheets() {
-    let walked = same(&many(), sheets::SHEETS as usize, "sheet", |n| sheets::sheet(n as u64));
+    let walked = same(&many(PLAY), sheets::SHEETS as usize, "sheet", |n| sheets::sheet(n as u64));
     assert!(walked.is_wide(), "{walked:?}");
 }
 
@@ -31,8 +30,7 @@ fn sheets_of_tens_of_millions_of_seconds() {
     assert_eq!(long.len(), LONG);
     for (n, bytes) in long {
         let mut independent = walk::every_second();
-        let sheet = Given::whole(bytes);
-        compare("long sheet", n, &mut independent, &sheet.bytes, &play::started(&play::program(), &sheet));
+        compare("long sheet", n, &mut independent, &bytes, &PLAY.printed(bytes.clone()));
         assert!(independent.skipped() == 0 && walk::is_long(independent.clock()));
     }
 }
@@ -40,27 +38,18 @@ fn sheets_of_tens_of_millions_of_seconds() {
 /// The start that is shared hides nothing of the program's own.
 #[test]
 fn random_sheets_with_a_start_for_each() {
-    same(&own(), 200, "sheet", |n| sheets::sheet(n as u64));
+    same(&own(PLAY), 200, "sheet", |n| sheets::sheet(n as u64));
 }
 
 #[test]
 fn every_cut_of_a_long_sheet() {
     let whole = sheets::long(3, 12);
-    same(&many(), whole.len() + 1, "cut at", |n| whole[..n].to_vec());
+    same(&many(PLAY), whole.len() + 1, "cut at", |n| whole[..n].to_vec());
 }
 
 #[test]
 fn random_bytes() {
-    same(&own(), 300, "random bytes", |n| {
-        let mut r = Random::new(n as u64 ^ 0xB17E5);
-        let length = r.below(if n % 2 == 0 { 40 } else { 4_000 }) as usize;
-        let mut bytes = r.bytes(length);
-        if n % 3 == 0 && !bytes.is_empty() {
-            // few timers, so that packets are reached
-            bytes[0] %= 4;
-        }
-        bytes
-    });
+    same(&own(PLAY), 300, "random bytes", |n| sheets::any_bytes(n as u64));
 }
 
 #[test]
@@ -69,5 +58,5 @@ fn the_largest_sheet() {
     assert_eq!(largest.len(), 1 + 6 * 255 + 2 + 47 * 65_535);
     let live = sheet::play(&largest).lines().filter(|line| line.starts_with("P 0") && !line.ends_with(" 0")).count();
     assert!(live > 20_000, "{live}");
-    same(&own(), 1, "the largest", |_| largest.clone());
+    same(&own(PLAY), 1, "the largest", |_| largest.clone());
 }

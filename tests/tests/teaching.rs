@@ -1,22 +1,36 @@
-//! The teaching sheets are what they say, and the compiled program plays each as its class expects.
+//! The teaching sheets are what they say, and the compiled programs print for each what its class expects.
 use against_the_world::command::file;
-use against_the_world::play::{self, Given};
-use independent::{sheet, teaching};
+use against_the_world::program::{Program, AERIAL, PLAY};
+use independent::teaching;
 use std::fs;
+
+/// Every sheet's stored output of that ending is what the independent side and the compiled program print.
+fn stored(program: Program, ending: &str) {
+    for lesson in teaching::lessons() {
+        let expected = fs::read_to_string(file(&format!("sheets/{}.{ending}", lesson.name))).unwrap();
+        assert_eq!((program.expected)(&lesson.sheet()), expected, "{}: the independent side", lesson.name);
+        assert_eq!(program.printed(lesson.sheet()), expected, "{}: the program", lesson.name);
+    }
+}
 
 #[test]
 fn every_teaching_sheet() {
-    let dir = file("sheets");
-    let page = fs::read_to_string(dir.join("README.md")).unwrap();
+    let page = fs::read_to_string(file("sheets/README.md")).unwrap();
     for lesson in teaching::lessons() {
-        let bytes = fs::read(dir.join(format!("{}.sheet", lesson.name))).unwrap();
-        let expected = fs::read_to_string(dir.join(format!("{}.out", lesson.name))).unwrap();
+        let bytes = fs::read(file(&format!("sheets/{}.sheet", lesson.name))).unwrap();
         assert_eq!(bytes, lesson.sheet(), "{}: another sheet", lesson.name);
-        assert_eq!(sheet::play(&lesson.sheet()), expected, "{}: the independent desk", lesson.name);
-        let printed = play::started(&play::program(), &Given::whole(bytes));
-        assert_eq!(printed, expected, "{}: the program", lesson.name);
         assert!(page.contains(lesson.line), "{}: no line of explanation", lesson.name);
     }
+}
+
+#[test]
+fn what_the_desk_says_to_each() {
+    stored(PLAY, "out");
+}
+
+#[test]
+fn how_bad_the_aerials_of_each_are() {
+    stored(AERIAL, "aerial");
 }
 
 #[test]

@@ -44,13 +44,14 @@ fn packet(r: &mut random::Random, kind: &str) -> Packet {
 }
 
 struct Bench {
-    out: [u8; 13],
+    /// The label's thirteen bytes, and the count of mended ones.
+    out: [u8; 14],
     pid: ProgramId,
 }
 
 impl Bench {
     fn new() -> Bench {
-        Bench { out: [0; 13], pid: unsafe { std::mem::zeroed() } }
+        Bench { out: [0; 14], pid: unsafe { std::mem::zeroed() } }
     }
 
     fn ours(&mut self, p: &Packet) -> bool {

@@ -1,4 +1,4 @@
-//! Preloaded into the program, it makes one start of it play many sheets. Under an emulator a start takes longer than most sheets:
+//! Preloaded into a program, it makes one start of it read many sheets. Under an emulator a start takes longer than most sheets:
 //! the loader, the C library and the program are translated each time. Here the program's `main` is called as it stands, for each
 //! sheet in a process of its own, forked from one that has the translation.
 //!

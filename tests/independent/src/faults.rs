@@ -3,6 +3,7 @@
 use crate::calendar;
 use crate::paper::{self, Label};
 
+/// A list of faults, each with what it says.
 macro_rules! faults {
     ($($name:ident: $what:expr,)*) => {
         #[derive(Clone, Copy, Debug, PartialEq, Eq)]
@@ -15,6 +16,7 @@ macro_rules! faults {
         }
     };
 }
+pub(crate) use faults;
 
 faults! {
     StandsFour: "a label stands for 4 seconds",
@@ -297,7 +299,7 @@ pub fn read(bytes: &[u8], fault: Option<Fault>) -> Result<Label, u8> {
         Some(AddressValueFirst) if whole && paper::decode(p[0]).map_or(false, |v| v != 0) => return Err(3),
         _ => {}
     }
-    let label = paper::read(&p)?;
+    let (label, _) = paper::read(&p)?;
     match fault {
         Some(DesignationTwoOnly) if label.designation == 3 => Err(5),
         Some(SpareRefused) if label.spare == 1 => Err(6),

@@ -1,5 +1,6 @@
 //! An implementation written from the paper alone, and what is made at random to hold another to it. Nothing here knows of the
 //! compiled code.
+pub mod aerial;
 pub mod calendar;
 pub mod calls;
 pub mod desk;

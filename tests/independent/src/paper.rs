@@ -1,5 +1,6 @@
 //! Reader and writer of packet 8/30 format 2 as the paper words them. Nothing here is taken from the desk's own sources:
-//! the Hamming byte is found by comparing all sixteen, and the label is one stream of 52 bits in the order in which they are sent.
+//! a Hamming byte is put right by turning each of its bits over until the parity equations hold, and the label is one stream of 52
+//! bits in the order in which they are sent.
 
 /// Fields as wide as the call takes them, so that one may be wider than its bits.
 #[derive(Clone, Copy, Debug, Default, PartialEq, Eq)]
@@ -67,9 +68,41 @@ pub fn good(value: u8) -> u8 {
         .fold(0, |byte, (i, &bit)| byte | (bit as u8) << i)
 }
 
-/// The value of the good byte that differs in no bit or one.
+/// What a Hamming byte is worth as it arrives: good as it is, good with one bit turned over, or neither.
+#[derive(Clone, Copy, Debug, PartialEq, Eq)]
+pub enum Nibble {
+    Clean(u8),
+    Mended(u8),
+    Damaged,
+}
+
+impl Nibble {
+    pub fn value(self) -> Option<u8> {
+        match self {
+            Nibble::Clean(v) | Nibble::Mended(v) => Some(v),
+            Nibble::Damaged => None,
+        }
+    }
+}
+
+/// The value of a byte whose parity equations hold: its data bits.
+fn of_good(byte: u8) -> Option<u8> {
+    let value = [1, 3, 5, 7].iter().enumerate().fold(0, |v, (k, bit)| v | (byte >> bit & 1) << k);
+    (good(value) == byte).then_some(value)
+}
+
+pub fn nibble(byte: u8) -> Nibble {
+    let turned = || (0..8).find_map(|bit| of_good(byte ^ 1 << bit));
+    of_good(byte).map(Nibble::Clean).or_else(|| turned().map(Nibble::Mended)).unwrap_or(Nibble::Damaged)
+}
+
 pub fn decode(byte: u8) -> Option<u8> {
-    (0..16).find(|&v| (byte ^ good(v)).count_ones() <= 1)
+    nibble(byte).value()
+}
+
+/// How many of these bytes are mended.
+pub fn mended<'a>(bytes: impl IntoIterator<Item = &'a u8>) -> u8 {
+    bytes.into_iter().filter(|&&byte| matches!(nibble(byte), Nibble::Mended(_))).count() as u8
 }
 
 /// The sixteen Hamming bytes.
@@ -111,7 +144,10 @@ fn at(first: u32, count: u32, width: u32, bits: u32) -> u32 {
     bits << (width + 1 - first - count)
 }
 
-pub fn read(bytes: &[u8]) -> Result<Label, u8> {
+/// The label, with how many of the sixteen bytes are mended; or the number of the refusal alone.
+pub type Reading = Result<(Label, u8), u8>;
+
+pub fn read(bytes: &[u8]) -> Reading {
     if bytes.len() != 42 {
         return Err(1);
     }
@@ -146,7 +182,7 @@ pub fn read(bytes: &[u8]) -> Result<Label, u8> {
             Run::Pty(first) => label.pty |= at(*first, *count, 8, bits) as u8,
         }
     }
-    Ok(label)
+    Ok((label, mended(HAMMING.iter().map(|&i| &bytes[i]))))
 }
 
 pub fn write(label: &Label, buf: &mut [u8]) -> u8 {
@@ -191,5 +227,23 @@ pub fn service(pil: u32) -> u8 {
         "00000111111100111111" => 4,
         "11111111111111111111" => 5,
         _ => 0,
+    }
+}
+
+#[cfg(test)]
+mod tests {
+    use super::*;
+
+    /// By the other way: the nearest of the sixteen good bytes.
+    #[test]
+    fn turning_a_bit_over_finds_the_nearest_good_byte() {
+        let mut seen = [0; 3];
+        for byte in 0..=255 {
+            let (away, value) = (0..16).map(|v| ((byte ^ good(v)).count_ones(), v)).min().unwrap();
+            let expected = [Nibble::Clean(value), Nibble::Mended(value), Nibble::Damaged][away as usize];
+            assert_eq!(nibble(byte), expected, "byte {byte:02X}");
+            seen[away as usize] += 1;
+        }
+        assert_eq!(seen, [16, 128, 112]);
     }
 }

@@ -95,6 +95,15 @@ impl Random {
         }
     }
 
+    /// One wrong bit in so many of the sixteen bytes, whichever they are.
+    pub fn wrong_bits_in(&mut self, p: &mut [u8], count: usize) {
+        let mut of = HAMMING;
+        for n in 0..count {
+            of.swap(n, n + self.below(16 - n as u64) as usize);
+            p[of[n]] ^= 1 << self.below(8);
+        }
+    }
+
     /// Anything that may arrive.
     pub fn packet(&mut self) -> Vec<u8> {
         let mut p = self.clean_packet();

@@ -5,10 +5,10 @@ use crate::faults::Fault;
 use std::fmt::Write;
 
 /// What is left of the input. A piece that would be short takes nothing.
-struct Input<'a>(&'a [u8]);
+pub(crate) struct Input<'a>(pub(crate) &'a [u8]);
 
 impl<'a> Input<'a> {
-    fn take(&mut self, n: usize) -> Option<&'a [u8]> {
+    pub(crate) fn take(&mut self, n: usize) -> Option<&'a [u8]> {
         if self.0.len() < n {
             return None;
         }
@@ -19,7 +19,7 @@ impl<'a> Input<'a> {
 }
 
 /// A number with the high byte first.
-fn number(bytes: &[u8]) -> u32 {
+pub(crate) fn number(bytes: &[u8]) -> u32 {
     bytes.iter().fold(0, |n, &b| n << 8 | b as u32)
 }
 

@@ -1,5 +1,6 @@
 //! Random sheets, the same for the same seed, of scenes in which states change.
 use crate::calls::Call;
+use crate::paper;
 use crate::random::Random;
 use crate::scenes::{Packet, Scene, Timer};
 
@@ -116,4 +117,25 @@ pub fn largest(seed: u64) -> Vec<u8> {
     timers.truncate(255);
     packets.truncate(0xFFFF);
     bytes(&timers, &packets)
+}
+
+/// As many timers and packets as the counts can say, all packets of one tuner, and each of the sixteen bytes of each mended.
+pub fn all_mended(tuner: u8) -> Vec<u8> {
+    let mut r = Random::new(0xA11);
+    let (label, mut packet) = (r.label(), r.bytes(42));
+    assert_eq!(paper::write(&label, &mut packet), 0);
+    r.wrong_bits_in(&mut packet, 16);
+    bytes(&[(0, 0, 0); 255], &vec![(0, tuner, packet); 0xFFFF])
+}
+
+/// Bytes that are hardly a sheet.
+pub fn any_bytes(seed: u64) -> Vec<u8> {
+    let mut r = Random::new(seed ^ 0xB17E5);
+    let length = r.below(if seed % 2 == 0 { 40 } else { 4_000 }) as usize;
+    let mut bytes = r.bytes(length);
+    if seed % 3 == 0 && !bytes.is_empty() {
+        // few timers, so that packets are reached
+        bytes[0] %= 4;
+    }
+    bytes
 }

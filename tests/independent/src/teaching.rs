@@ -1,5 +1,6 @@
-//! The sheets of `sheets/`: the whole case of the paper, and one for each thing that a class gets wrong.
-use crate::paper::{self, Label};
+//! The sheets of `sheets/`: the whole case of the paper, one for each thing that a class gets wrong, and one for those who put aerials
+//! up.
+use crate::paper::{self, Label, HAMMING};
 use crate::scenes::{Packet, Timer};
 use crate::sheets;
 
@@ -47,8 +48,18 @@ fn flagged() -> Vec<u8> {
     written(Label { designation: 2, prf: 1, mi: 1, cni: CNI, pil: PIL, ..Label::default() })
 }
 
-fn damaged(mut packet: Vec<u8>) -> Vec<u8> {
-    packet[15] ^= 0b11;
+fn damaged(packet: Vec<u8>) -> Vec<u8> {
+    damaged_at(15, packet)
+}
+
+fn damaged_at(byte: usize, mut packet: Vec<u8>) -> Vec<u8> {
+    packet[byte] ^= 0b11;
+    packet
+}
+
+/// One wrong bit in each of these bytes.
+fn mended_at(bytes: &[usize], mut packet: Vec<u8>) -> Vec<u8> {
+    bytes.iter().for_each(|&i| packet[i] ^= 1 << i % 8);
     packet
 }
 
@@ -121,6 +132,13 @@ pub fn lessons() -> Vec<Lesson> {
              recording with MI 1.",
             a_flag_that_never_falls(),
         ),
+        lesson(
+            "a_bad_aerial",
+            "How bad each aerial is, which `./aerial` tells: the packets of tuner 0 come clean; those of tuner 1 have twenty bytes mended in \
+             all, and are taken as they were sent; tuner 2 loses three of four, so that its label lapses and the recording is cut short; \
+             from tuner 3 nothing comes, and it has no line.",
+            a_bad_aerial(),
+        ),
     ]
 }
 
@@ -131,4 +149,15 @@ fn a_flag_that_never_falls() -> Vec<Packet> {
     packets.extend((35..=60).step_by(5).chain([61, 65, 66, 71]).map(|second| (T + second, 1, flagged())));
     packets.push((T + 72, 1, sent(RIT, 0)));
     packets
+}
+
+/// The timer's programme is heard by the third tuner, and another one by the first two.
+fn a_bad_aerial() -> Vec<Packet> {
+    let (own, other) = (|| sent(PIL, 0), || sent(OTHER, 0));
+    let mut elsewhere = own();
+    elsewhere[0] = paper::good(1);
+    let second = [other(), mended_at(&[12], other()), mended_at(&[1, 9, 20], other()), mended_at(&HAMMING, other())];
+    let third = [own(), damaged(own()), damaged_at(1, own()), elsewhere];
+    let heard = [0, 5, 10, 36].into_iter().zip(second).zip(third);
+    heard.flat_map(|((at, second), third)| [(T + at, 0, other()), (T + at, 1, second), (T + at, 2, third)]).collect()
 }
