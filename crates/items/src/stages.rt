@@ -75,13 +75,14 @@ pub(crate) fn found_at(stage: Stage) -> Found
     }
 }
 
+// 'Input that is short, a count included, or has a byte left over' may not end so.
 pub(crate) fn may_end(stage: Stage) -> bool
     ensures { λ r. ⌜ r ≡ mayEnd stage ⌝ }
 {
     match stage {
         Stage::TimerCount => false,
         Stage::Timers(_) => false,
-        Stage::PacketCount => false,
+        Stage::PacketCount => false, // short: the count is missing
         Stage::Packets(_) => false,
         Stage::Played => true,
         Stage::LeftOver => false,

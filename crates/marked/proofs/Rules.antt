@@ -7,9 +7,11 @@ use Rattle.label.specs.Pil.{serviceOf}
 use Rattle.rule.specs.Rule.{stands, heardAt, openAt, endedAt, matches, sightOf, recordingAt, fromRecording, fromRunningOn, nextCopy, nextTimer}
 use Rattle.desk.specs.Moments.{moment, nextSecond, quiet, walkedIn, walkedTo, liveCount}
 use Rattle.desk.specs.Calls.{hearingAt, packetOf, waitOf, roomIn, addOf, askOf}
-use Rattle.sheet.specs.Sheet.{decimal, timerTold, timerLeft, packetTold, packetLeft, packetsFrom, timersFrom, sheetOf}
+use Rattle.answer.specs.Text.{decimalIn}
+use Rattle.items.specs.Items.{packetsFrom, timersFrom, itemsOf}
+use Rattle.sheet.specs.Sheet.{decimal, timerTold, timerLeft, packetTold, packetLeft, linesOf, deskLeft, sheetOf}
 use Rattle.history.specs.Run.{outcome, answersOf, deskAfter}
 
 unfoldable pub rules : Unit {0}
-unfolding D good distance away nearest nibbleOf leap daysIn dayExists realIn sumBelow daysBeforeMonth daysOfYear daysBeforeYear dayNumber opening closing opensAt closesAt windowIn readingOf byteFor writingOf serviceOf stands heardAt openAt endedAt matches sightOf recordingAt fromRecording fromRunningOn nextCopy nextTimer moment nextSecond quiet walkedIn walkedTo liveCount hearingAt packetOf waitOf roomIn addOf askOf decimal timerTold timerLeft packetTold packetLeft packetsFrom timersFrom sheetOf outcome answersOf deskAfter
+unfolding D good distance away nearest nibbleOf leap daysIn dayExists realIn sumBelow daysBeforeMonth daysOfYear daysBeforeYear dayNumber opening closing opensAt closesAt windowIn readingOf byteFor writingOf serviceOf stands heardAt openAt endedAt matches sightOf recordingAt fromRecording fromRunningOn nextCopy nextTimer moment nextSecond quiet walkedIn walkedTo liveCount hearingAt packetOf waitOf roomIn addOf askOf decimalIn packetsFrom timersFrom itemsOf decimal timerTold timerLeft packetTold packetLeft linesOf deskLeft sheetOf outcome answersOf deskAfter
 rules = tt

@@ -1,7 +1,8 @@
 -- Example 12: the seconds up to the first packet pass at once, since the desk is quiet; all else is computed.
 use Prim.Native.Nat.{ℕ}
 use mathlib.Core.Path.{_≡_, refl, sym, ap, ap₂, _∙_}
-use mathlib.Core.List.{List, [], _∷_, _++_}
+use mathlib.Core.Bool.{true}
+use mathlib.Core.List.{List, [], _∷_, _++_, append-assoc}
 use Rattle.answer.specs.Answer.{Answer, given}
 use Rattle.label.specs.Packet.{labelIn}
 use Rattle.rule.specs.declared.Booking.{Booking}
@@ -10,7 +11,9 @@ use Rattle.desk.specs.declared.Desk.{Desk}
 use Rattle.desk.specs.Moments.{fresh, clockedAt, moment, walk, passTo, liveCount}
 use Rattle.desk.specs.Calls.{withLabel, withTimer, packetOf}
 use Rattle.desk.proofs.Fast.{fastTo, fast-pass}
-use Rattle.sheet.specs.Sheet.{packetLine, packetTold, packetLeft, packetsFrom, sheetOf}
+use Rattle.items.specs.Items as item
+use Rattle.items.specs.Items.{Item}
+use Rattle.sheet.specs.Sheet.{packetLine, packetTold, packetLeft, linesOf, deskLeft, lastLine, sheetOf}
 use Rattle.history.specs.Run.{Call, packet, wait, add, ask, live, Done, onlyDesk, outcome, answersOf}
 use Rattle.marked.specs.Marked.{packetA, takenOver, plainly, wholeCase}
 use Rattle.marked.proofs.Rules.{rules}
@@ -65,28 +68,45 @@ twelve =
     ∙ ap (λ (ns : List ℕ). 0 ∷ 0 ∷ ns) said-then
 
 -- ── as a sheet ─────────────────────────────────────────────────────────────────────────────────────────────────────
-abbrev others : List ℕ
-others = 0x04 ∷ 0xC5 ∷ 0xDF ∷ 0x3D ∷ 4 ∷ packetA ++ (0x04 ∷ 0xC5 ∷ 0xDF ∷ 0x42 ∷ 1 ∷ packetA)
+-- what items print, from a desk on, and then the input's end
+plays : List Item → Desk → List ℕ
+plays is d = linesOf is d ++ lastLine true (deskLeft is d)
 
-abbrev packets : List ℕ
-packets = 0x04 ∷ 0xC5 ∷ 0xDF ∷ 0x38 ∷ 0 ∷ packetA ++ others
+plays-first : (i : List ℕ) (is : List Item) (d : Desk) → plays (item.packet i ∷ is) d ≡ packetTold i d ++ plays is (packetLeft i d)
+unfolding plays linesOf deskLeft
+plays-first i is d = append-assoc (packetTold i d) (linesOf is (packetLeft i d)) (lastLine true (deskLeft is (packetLeft i d)))
 
-timer-told : sheetOf wholeCase ≡ 84 ∷ 32 ∷ 48 ∷ 10 ∷ packetsFrom 3 booked packets
-unfolding rules
+abbrev first-item : List ℕ
+first-item = 0x04 ∷ 0xC5 ∷ 0xDF ∷ 0x38 ∷ 0 ∷ packetA
+
+others : List Item
+others = item.packet (0x04 ∷ 0xC5 ∷ 0xDF ∷ 0x3D ∷ 4 ∷ packetA) ∷ item.packet (0x04 ∷ 0xC5 ∷ 0xDF ∷ 0x42 ∷ 1 ∷ packetA) ∷ []
+
+timer-told : sheetOf wholeCase ≡ 84 ∷ 32 ∷ 48 ∷ 10 ∷ plays (item.packet first-item ∷ others) booked
+unfolding rules plays others
 timer-told = refl
 
-first-told : packetsFrom 3 booked packets ≡ packetLine 0 (liveCount recording) ++ packetsFrom 2 recording others
-unfolding packetsFrom packetTold packetLeft
+first-left : packetLeft first-item booked ≡ recording
+unfolding packetLeft
+first-left = rw first-heard
+
+first-told : packetTold first-item booked ≡ packetLine 0 (liveCount recording)
+unfolding packetTold packetLeft
 first-told = rw first-heard
 
 live-then : packetLine 0 (liveCount recording) ≡ 80 ∷ 32 ∷ 48 ∷ 32 ∷ 49 ∷ 10 ∷ []
 unfolding rules
 live-then = refl
 
-others-told : packetsFrom 2 recording others ≡ 80 ∷ 32 ∷ 56 ∷ 32 ∷ 49 ∷ 10 ∷ 80 ∷ 32 ∷ 48 ∷ 32 ∷ 49 ∷ 10 ∷ 90 ∷ 32 ∷ 49 ∷ 10 ∷ []
-unfolding rules walk passTo
+others-told : plays others recording ≡ 80 ∷ 32 ∷ 56 ∷ 32 ∷ 49 ∷ 10 ∷ 80 ∷ 32 ∷ 48 ∷ 32 ∷ 49 ∷ 10 ∷ 90 ∷ 32 ∷ 49 ∷ 10 ∷ []
+unfolding rules walk passTo plays others
 others-told = refl
 
 pub twelve-sheet : sheetOf wholeCase ≡
     84 ∷ 32 ∷ 48 ∷ 10 ∷ 80 ∷ 32 ∷ 48 ∷ 32 ∷ 49 ∷ 10 ∷ 80 ∷ 32 ∷ 56 ∷ 32 ∷ 49 ∷ 10 ∷ 80 ∷ 32 ∷ 48 ∷ 32 ∷ 49 ∷ 10 ∷ 90 ∷ 32 ∷ 49 ∷ 10 ∷ []
-twelve-sheet = timer-told ∙ ap (λ (l : List ℕ). 84 ∷ 32 ∷ 48 ∷ 10 ∷ l) (first-told ∙ ap₂ (λ (l m : List ℕ). l ++ m) live-then others-told)
+twelve-sheet =
+    timer-told
+    ∙ ap (λ (l : List ℕ). 84 ∷ 32 ∷ 48 ∷ 10 ∷ l)
+    (plays-first first-item others booked
+    ∙ ap₂ (λ (l : List ℕ) (d : Desk). l ++ plays others d) (first-told ∙ live-then) first-left
+    ∙ ap (λ (l : List ℕ). 80 ∷ 32 ∷ 48 ∷ 32 ∷ 49 ∷ 10 ∷ l) others-told)

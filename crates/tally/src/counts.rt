@@ -46,7 +46,7 @@ fn refused_more(h: Heard) -> Heard
     ensures { λ r. ⌜ r ≡ record { clean = h .clean; mended = h .mended; bytes = h .bytes; refused = grown (h .refused) 1 } ⌝ }
 {
     Heard {
-        clean: h.clean,
+        clean: h.clean, // it is not read
         mended: h.mended,
         bytes: h.bytes,
         refused: grown(h.refused, 1),
