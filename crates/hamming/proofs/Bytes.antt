@@ -1,5 +1,5 @@
 -- What a byte carries, by tests of all 256 bytes and all 16 values that antt computes.
-use Prim.Native.Nat.{ℕ, zero, suc, _+_, _*_, _/_, _%_, _<_, _≤_}
+use Prim.Native.Nat.{ℕ, zero, suc, _/_, _%_, _<_, _≤_}
 use mathlib.Core.Path.{_≡_, refl, sym, ap, _∙_}
 use mathlib.Core.Bool.{Bool, true, false, not}
 use mathlib.Core.List.{List, [], _∷_, map}
@@ -152,10 +152,10 @@ pub clean-good : (b v : ℕ) → b < 256 → nibbleOf b ≡ Clean v → b ≡ go
 clean-good b v h e = let o = only-clean b v e in distance-none b (good v) h (good-small v (o .0)) (o .1)
 
 -- ── the search of `decode` ─────────────────────────────────────────────────────────────────────────────────────────
--- the value of a byte's own data bits
 abbrev halves : ℕ → ℕ
 halves b = let pairs = bitAnd (b / 2) 0x55 in bitAnd (bitOr pairs (pairs / 2)) 0x33
 
+-- the value of a byte's own data bits
 abbrev own : ℕ → ℕ
 own b = bitAnd (bitOr (halves b) (halves b / 4)) 0x0F
 
@@ -179,9 +179,9 @@ all-flips : T (below flip-small 5)
 unfolding flip-small
 all-flips = tt
 
-tried-small : (b i : ℕ) → b < 256 → i < 5 → tried b i < 16
+tried-small : (b i : ℕ) → i < 5 → tried b i < 16
 unfolding flip-small
-tried-small b i p q = xor-lt 4 (own b) (getD flips i 0) (own-small b) (ltb→lt _ 16 (each flip-small 5 all-flips i q))
+tried-small b i q = xor-lt 4 (own b) (getD flips i 0) (own-small b) (ltb→lt _ 16 (each flip-small 5 all-flips i q))
 
 -- a good byte has the data bits of its value
 ownBits : ℕ → Bool
@@ -195,9 +195,9 @@ own-good : (v : ℕ) → v < 16 → own (good v) ≡ v
 unfolding ownBits
 own-good v h = eqb→eq (own (good v)) v (each ownBits 16 all-own v h)
 
--- so that a byte is clean exactly where it is the good byte of its own data bits
-pub hit-own : (b : ℕ) {g : ℕ} → b < 256 → g ≡ good (own b % 16) → b ≡ g → Clean (own b) ≡ nibbleOf b
-hit-own b p e h = let l = own-small b in sym (ap nibbleOf (h ∙ e ∙ ap good (mod-eq-of-lt l)) ∙ sent (own b) l)
+-- and the good byte of a byte's own data bits is clean
+pub hit-own : (b : ℕ) {g : ℕ} → g ≡ good (own b % 16) → b ≡ g → Clean (own b) ≡ nibbleOf b
+hit-own b e h = let l = own-small b in sym (ap nibbleOf (h ∙ e ∙ ap good (mod-eq-of-lt l)) ∙ sent (own b) l)
 
 -- whether the value tried at step i is near
 pub near : ℕ → ℕ → Bool
@@ -222,7 +222,7 @@ none-near b p f =
 module _ (b i : ℕ) {t : Bool} (p : b < 256) (q : i < 5) (e : t ≡ leb (distance b (good (tried b i % 16))) 1) where
   told-near : t ≡ near b i
   unfolding near
-  told-near = rw (mod-eq-of-lt (tried-small b i p q)) at e
+  told-near = rw (mod-eq-of-lt (tried-small b i q)) at e
 
   own-byte : (v : ℕ) → v < 16 → b ≡ good v → b ≡ good (own b % 16)
   own-byte v l f =
@@ -234,7 +234,7 @@ module _ (b i : ℕ) {t : Bool} (p : b < 256) (q : i < 5) (e : t ≡ leb (distan
   unfolding near
   hit d n h =
       let v = tried b i in
-      let l = tried-small b i p q in
+      let l = tried-small b i q in
       let c = leb-true (distance b (good v)) 1 (sym told-near ∙ h) in
       let z : distance b (good v) ≡ 0 → ⊥ = λ s. n (own-byte v l (distance-none b (good v) p (good-small v l) s) ∙ sym d) in
       sym (near-mended b v p l (omega arith))

@@ -7,7 +7,7 @@ use native.Mathlib.Omega.{arith}
 use borrow.Author.Tests.{eq-eqb, eqb-true, leb-true, leb-false, ltb-true}
 use lib.Dec.{T, eqb, leb, ltb}
 use Rattle.answer.specs.Lists.{some, member}
-use Rattle.answer.proofs.All.{below, each}
+use Rattle.answer.proofs.All.{each}
 use Rattle.answer.proofs.Cases.{by-test}
 use Rattle.answer.proofs.Every.{no-way, All, all-map, tested, listed}
 use Rattle.hamming.specs.Byte.{good, values, distance, least, away, firstAt, nearest, nibbleOf}

@@ -12,7 +12,7 @@ use Rattle.answer.specs.Answer.{Answer, given, Row, firstOf, andThen}
 use Rattle.answer.specs.Lists.{member, count}
 use Rattle.answer.proofs.Cases.{by-test}
 use Rattle.answer.proofs.Counts.{bit-le, count-length, count-none, none-counted, count-same}
-use Rattle.answer.proofs.Every.{no-way, all-of, all-map, listed, each-listed, unlisted, Passed, accepted, first-then}
+use Rattle.answer.proofs.Every.{no-way, all-of, listed, each-listed, unlisted, Passed, accepted, first-then}
 use Rattle.hamming.specs.Byte.{good, distance, away, nibbleOf}
 use Rattle.hamming.specs.declared.Nibble.{Nibble}
 use Rattle.hamming.specs.declared.Nibble.the-variants.{Damaged, Clean, Mended}
@@ -21,7 +21,7 @@ use Rattle.hamming.proofs.Nearest.{only-mended, isMended, mended-away}
 use Rattle.label.specs.declared.Label.{Label}
 use Rattle.label.specs.declared.Received.{Received}
 use Rattle.label.specs.Laws.{AtEach, Good, Wrong}
-use Rattle.label.specs.Packet.{readerRows, readingOf, labelIn, mendedAt, mendedIn, receptionOf, writingOf, byteFor, valueFor, put, putRight, valueAt, valueOf, damagedAt, damaged, hammingBytes, labelBytes}
+use Rattle.label.specs.Packet.{readerRows, readingOf, labelIn, mendedAt, mendedIn, receptionOf, writingOf, byteFor, valueFor, putRight, valueAt, valueOf, damagedAt, damaged, hammingBytes, labelBytes}
 use Rattle.label.proofs.Puts.{put-length, put-in, put-other}
 use Rattle.label.proofs.Places.{value-small}
 use Rattle.label.proofs.Round.{back, stands, read-size, whole}

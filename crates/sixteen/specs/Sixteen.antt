@@ -1,7 +1,7 @@
 -- The sixteen slots as a list (document 01, 'Timers and calls'): free ones, held ones, and the one that a new timer gets.
 use Prim.Native.Nat.{ℕ}
 use mathlib.Core.Bool.{Bool, true, false, not, _&&_}
-use mathlib.Core.List.{List, [], _∷_}
+use mathlib.Core.List.{List}
 use lib.Dec.{eqb}
 use Rattle.rule.specs.Rule.{endedAt, held, Found, nowhere, at, lowest}
 use Rattle.rule.specs.declared.Booking.{Booking}

@@ -20,7 +20,7 @@ good-byte-requires : tie.Need-good-byte-requires Inv-loop μ-loop
 good-byte-requires c κs = search needs
 
 returns : tie.Need-returns Inv-loop μ-loop
-returns c = hit-own (c .before .before .args .b) (search needs) (c .before .good-byte .ensures) (c .if1 .taken)
+returns c = hit-own (c .before .before .args .b) (c .before .good-byte .ensures) (c .if1 .taken)
 
 loop-holds : tie.Need-loop-holds Inv-loop μ-loop
 loop-holds c = (search needs, below-none _)

@@ -1,6 +1,5 @@
 -- `probe_decode` takes the decoded nibble apart.
 use borrow.Author.Needs.{needs}
-use native.Mathlib.Omega.{arith}
 use mathlib.Core.Path.{sym, ap, _∙_}
 use Rattle.hamming.proofs.Nearest.{only-mended}
 use Rattle.probe.specs.Plain.{nibbleNumber}
