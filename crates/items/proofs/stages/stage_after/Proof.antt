@@ -1,5 +1,8 @@
 -- `stage_after`: a count is the number of its bytes, and each item leaves one less.
 use borrow.Author.Needs.{needs}
+use mathlib.Core.Path.{_≡_, sym, _∙_}
+use lib.ListN.{take}
+use Rattle.answer.specs.Bytes.{numberOf}
 use Rattle.items.proofs.Numbers.{one, number}
 use Rattle.items.proofs.stages.stage_after.Statement.{statement}
 use Rattle.items.proofs.stages.stage_after.Tie as tie
@@ -68,7 +71,9 @@ returns-3 : tie.Need-returns-3
 returns-3 c =
     let n = c .before in
     let k = n .before in
-    rw (k .enum-told2 .given .1, number 2 (k .before .before .args .t2) (search needs), ← n .pair .ensures) (c .packets-left .ensures)
+    let held = k .before .before .args .t2 in
+    let count : n .pair .result ≡ numberOf (take 2 held) = n .pair .ensures ∙ sym (number 2 held (search needs)) in
+    rw (k .enum-told2 .given .1, ← count) (c .packets-left .ensures)
 
 returns-4 : tie.Need-returns-4
 returns-4 c = let n = c .before in rw (n .before .before .stage2 .given .1, ← n .one-less2 .ensures) (c .packets-left2 .ensures)

@@ -51,7 +51,7 @@ returns-2 c =
     let read = c .before .before in
     let a = read .before .before .before .before .args in
     let e : c .packet-more .result ≡ afterPacket (receptionOf (take 42 (drop 5 (a .t2)))) (getD (a .t1) (getD (a .t2) 4 0) silence) =
-        c .packet-more .ensures ∙ ap (λ x. afterPacket x (getD (a .t1) (getD (a .t2) 4 0) silence)) (read .read .ensures .0) in
+    c .packet-more .ensures ∙ ap (λ x. afterPacket x (getD (a .t1) (getD (a .t2) 4 0) silence)) (read .read .ensures .0) in
     rw (packet-at (a .t2) (a .t1) (search needs), e)
 
 pub counted-spec : {M : Type 1} → statement M

@@ -64,8 +64,8 @@ returns c =
     let from-3 = then (n2 .put-number2 .last .0) (n2 .put-number2 .result) (number (h .bytes)) (number (h .refused) ++ end) (n3 .put-number3 .ensures) from-4 in
     let from-2 = then (n1 .put-number .last .0) (n1 .put-number .result) (number (h .mended)) (number (h .bytes) ++ (number (h .refused) ++ end)) (n2 .put-number2 .ensures) from-3 in
     let from-1 =
-        then (opened .open-line .last .0) (opened .open-line .result) (number (h .clean)) (number (h .mended) ++ (number (h .bytes) ++ (number (h .refused) ++ end)))
-        (n1 .put-number .ensures) from-2 in
+    then (opened .open-line .last .0) (opened .open-line .result) (number (h .clean)) (number (h .mended) ++ (number (h .bytes) ++ (number (h .refused) ++ end)))
+    (n1 .put-number .ensures) from-2 in
     then (a .out .now) (a .at) (65 ∷ space ∷ digit (a .tuner) ∷ [])
     (number (h .clean) ++ (number (h .mended) ++ (number (h .bytes) ++ (number (h .refused) ++ end)))) (opened .open-line .ensures) from-1
 
