@@ -37,3 +37,10 @@ fn how_bad_the_aerials_of_each_are() {
 fn the_whole_case_is_the_programs_own() {
     assert_eq!(fs::read(file("crates/play/stdin")).unwrap(), teaching::lessons()[0].sheet());
 }
+
+#[test]
+fn the_bad_aerial_is_the_other_programs_own() {
+    let lesson = |kind: &str| fs::read(file(&format!("sheets/a_bad_aerial.{kind}"))).unwrap();
+    assert_eq!(fs::read(file("crates/aerial/stdin")).unwrap(), lesson("sheet"));
+    assert_eq!(fs::read(file("crates/aerial/stdout")).unwrap(), lesson("aerial"));
+}

@@ -14,7 +14,7 @@ abbrev pub member : ℕ → List ℕ → Bool
 member i [] = false
 member i (j ∷ js) = eqb i j || member i js
 
--- how many pass a test, for 'the count of live timers' and 'how many of its sixteen bytes were mended'
+-- how many pass a test, for 'the count of live timers' and 'how many of its sixteen bytes .. were mended'
 abbrev pub count : {A : Type 0} → (A → Bool) → List A → ℕ
 count f [] = 0
 count f (x ∷ xs) = cond (f x) 1 0 + count f xs

@@ -16,7 +16,7 @@ lineFeed = 10
 abbrev pub digit : ℕ → ℕ
 digit d = 48 + d % 10
 
--- a number in decimal, with no 0 in front, where k digits hold it
+-- a number in decimal, with no 0 in front, where k digits hold it; else its k lowest digits
 unfoldable pub decimalIn : ℕ → ℕ → List ℕ
 decimalIn zero n = []
 decimalIn (suc k) n = cond (ltb n 10) (digit n ∷ []) (decimalIn k (n / 10) ++ (digit n ∷ []))

@@ -15,7 +15,7 @@ use Rattle.answer.specs.Lists.{count}
 use Rattle.answer.proofs.Cases.{by-test}
 use Rattle.answer.proofs.Every.{All}
 use Rattle.items.specs.declared.Stage.{Stage}
-use Rattle.items.specs.declared.Stage.the-variants.{TimerCount, Timers, PacketCount, Packets, Played, LeftOver}
+use Rattle.items.specs.declared.Stage.the-variants.{TimerCount, Timers, PacketCount, Packets, Complete, LeftOver}
 use Rattle.items.specs.declared.Split.{Split}
 use Rattle.items.specs.Items.{Contents, Next, short, item, next, ended, onPacket, packetsFrom, onPacketCount, onTimer, timersFrom, onTimerCount, itemsOf}
 use Rattle.items.specs.Pieces.{need, stageAfter, holding, isWhole, itemOf, afterItem, afterByte, splitAfter, leftOver, unsplit, longestSheet}
@@ -62,7 +62,7 @@ room TimerCount = longestSheet
 room (Timers n) = n * 6 + (2 + 65535 * 47)
 room PacketCount = 2 + 65535 * 47
 room (Packets n) = n * 47
-room Played = 0
+room Complete = 0
 room LeftOver = 0
 
 abbrev Over : Stage → Type 0
@@ -77,11 +77,11 @@ item-room (Timers n) r i e h =
     let l = left-is (λ m st. room st ≤ m * 6 + (2 + 65535 * 47)) PacketCount Timers (omega arith) (λ m. omega arith) (n - 1) in
     inr (omega arith)
 item-room PacketCount r i e h =
-    inr (left-is (λ n st. n ≤ 65535 → room st + 2 ≤ 2 + 65535 * 47) Played Packets (λ l. omega arith) (λ n l. omega arith) (numberOf i) (two-bytes i e h))
+    inr (left-is (λ n st. n ≤ 65535 → room st + 2 ≤ 2 + 65535 * 47) Complete Packets (λ l. omega arith) (λ n l. omega arith) (numberOf i) (two-bytes i e h))
 item-room (Packets n) r i e h =
-    let l = left-is (λ m st. room st ≤ m * 47) Played Packets (omega arith) (λ m. omega arith) (n - 1) in
+    let l = left-is (λ m st. room st ≤ m * 47) Complete Packets (omega arith) (λ m. omega arith) (n - 1) in
     inr (omega arith)
-item-room Played r i e h = inl refl
+item-room Complete r i e h = inl refl
 item-room LeftOver r i e h = inl refl
 
 -- and what is held of an item fits in it
@@ -90,7 +90,7 @@ need-room TimerCount r = omega arith
 need-room (Timers n) r = omega arith
 need-room PacketCount r = omega arith
 need-room (Packets n) r = omega arith
-need-room Played r = omega arith
+need-room Complete r = omega arith
 need-room LeftOver r = omega arith
 
 -- after k bytes

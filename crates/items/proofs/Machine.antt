@@ -12,7 +12,7 @@ use lib.Seq.{append-snoc, length-take-le, take-append-seam, drop-append-seam, ta
 use Rattle.answer.specs.Bytes.{numberOf}
 use Rattle.answer.proofs.Every.{no-way}
 use Rattle.items.specs.declared.Stage.{Stage}
-use Rattle.items.specs.declared.Stage.the-variants.{TimerCount, Timers, PacketCount, Packets, Played, LeftOver}
+use Rattle.items.specs.declared.Stage.the-variants.{TimerCount, Timers, PacketCount, Packets, Complete, LeftOver}
 use Rattle.items.specs.declared.Split.{Split}
 use Rattle.items.specs.Items.{Item, timer, packet, Contents, noMore, onto, Next, short, item, next, ended, onPacket, packetsFrom, onPacketCount, onTimer, timersFrom, onTimerCount, itemsOf}
 use Rattle.items.specs.Pieces.{need, timersLeft, packetsLeft, stageAfter, foundAt, itemsFound, holding, isWhole, itemOf, afterItem, afterByte, byteItems, splitAfter, pieceItems, mayEnd, leftOver, unsplit}
@@ -36,7 +36,7 @@ splitFrom TimerCount xs = onTimerCount (next 1 xs)
 splitFrom (Timers n) xs = timersFrom n xs
 splitFrom PacketCount xs = onPacketCount (next 2 xs)
 splitFrom (Packets n) xs = packetsFrom n xs
-splitFrom Played xs = ended xs
+splitFrom Complete xs = ended xs
 splitFrom LeftOver xs = noMore false
 
 -- the items that an item's bytes are: one of timers and packets, and else none
@@ -45,7 +45,7 @@ itemsAt TimerCount i = []
 itemsAt (Timers n) i = timer i ∷ []
 itemsAt PacketCount i = []
 itemsAt (Packets n) i = packet i ∷ []
-itemsAt Played i = []
+itemsAt Complete i = []
 itemsAt LeftOver i = []
 
 found-at : (st : Stage) (held : List ℕ) → itemsFound (foundAt st) held ≡ itemsAt st (take (need st) held)
@@ -53,7 +53,7 @@ found-at TimerCount held = refl
 found-at (Timers n) held = refl
 found-at PacketCount held = refl
 found-at (Packets n) held = refl
-found-at Played held = refl
+found-at Complete held = refl
 found-at LeftOver held = refl
 
 -- the same, by the stage's next item
@@ -67,7 +67,7 @@ Real TimerCount = Unit {0}
 Real (Timers n) = 1 ≤ n
 Real PacketCount = Unit {0}
 Real (Packets n) = 1 ≤ n
-Real Played = Unit {0}
+Real Complete = Unit {0}
 Real LeftOver = Unit {0}
 
 -- the stage of what is left is that of none left, or one with some left
@@ -82,14 +82,14 @@ timers-left xs = left-is (λ n st. splitFrom st xs ≡ timersFrom n xs) PacketCo
 
 packets-left : (xs : List ℕ) (n : ℕ) → splitFrom (packetsLeft n) xs ≡ packetsFrom n xs
 unfolding packetsFrom
-packets-left xs = left-is (λ n st. splitFrom st xs ≡ packetsFrom n xs) Played Packets refl (λ n. refl)
+packets-left xs = left-is (λ n st. splitFrom st xs ≡ packetsFrom n xs) Complete Packets refl (λ n. refl)
 
 real-after : (st : Stage) (i : List ℕ) → Real (stageAfter st i)
 real-after TimerCount i = left-is (λ n. Real) PacketCount Timers tt (omega arith) (numberOf i)
 real-after (Timers n) i = left-is (λ n. Real) PacketCount Timers tt (omega arith) (n - 1)
-real-after PacketCount i = left-is (λ n. Real) Played Packets tt (omega arith) (numberOf i)
-real-after (Packets n) i = left-is (λ n. Real) Played Packets tt (omega arith) (n - 1)
-real-after Played i = tt
+real-after PacketCount i = left-is (λ n. Real) Complete Packets tt (omega arith) (numberOf i)
+real-after (Packets n) i = left-is (λ n. Real) Complete Packets tt (omega arith) (n - 1)
+real-after Complete i = tt
 real-after LeftOver i = tt
 
 same-next : (f g : Next → Contents) → f short ≡ g short → ((i xs : List ℕ) → f (item i xs) ≡ g (item i xs)) → (x : Next) → f x ≡ g x
@@ -110,8 +110,8 @@ by-item (Packets zero) r xs = absurd (omega arith)
 by-item (Packets (suc n)) r xs =
     let e : suc n - 1 ≡ n = omega arith in
     same-next (onPacket (packetsFrom n)) (onItem (Packets (suc n))) refl (λ i ys. rw (e, packets-left ys n)) (next (need (Packets n)) xs)
-by-item Played r [] = refl
-by-item Played r (x ∷ xs) = rw (next-item (x ∷ []) xs)
+by-item Complete r [] = refl
+by-item Complete r (x ∷ xs) = rw (next-item (x ∷ []) xs)
 by-item LeftOver r xs = same-next (λ x. noMore false) (onItem LeftOver) refl (λ i ys. refl) (next (need LeftOver) xs)
 
 -- ── a sheet that is being split ────────────────────────────────────────────────────────────────────────────────────
@@ -133,7 +133,7 @@ need-bounds TimerCount = omega arith
 need-bounds (Timers n) = omega arith
 need-bounds PacketCount = omega arith
 need-bounds (Packets n) = omega arith
-need-bounds Played = omega arith
+need-bounds Complete = omega arith
 need-bounds LeftOver = omega arith
 
 -- the end of the input finds the next item short
@@ -225,7 +225,7 @@ is-left-over TimerCount e = no-way (sym e)
 is-left-over (Timers n) e = no-way (sym e)
 is-left-over PacketCount e = no-way (sym e)
 is-left-over (Packets n) e = no-way (sym e)
-is-left-over Played e = no-way (sym e)
+is-left-over Complete e = no-way (sym e)
 is-left-over LeftOver e = refl
 
 -- one byte more, and a piece more, hold no item

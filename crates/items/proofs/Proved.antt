@@ -6,6 +6,7 @@ use Rattle.answer.proofs.Answers.{equation, paired}
 use Rattle.items.specs.Laws.{Laws}
 use Rattle.items.specs.Pieces.{unsplit, takenFrom, wholeAt, leftOver, longestSheet, decidingAfter}
 use Rattle.items.proofs.Machine.{pieces, settled}
+use Rattle.items.proofs.Taking.{taking}
 use Rattle.items.proofs.Longest.{longest-sheet, few-packets}
 
 pub laws : Laws
@@ -13,6 +14,7 @@ laws = record {
   pieces = pieces;
   settled = settled;
   longest-sheet = longest-sheet;
+  taken = λ piece from s h. let t = taking piece from s h in (t .items, t .after, t .on);
   few-packets = few-packets;
   new-unique = equation unsplit;
   take-unique =

@@ -6,11 +6,12 @@ use lib.Dec.{ltb}
 use lib.ListN.{length, take, drop}
 use Rattle.answer.specs.Bytes.{numberOf}
 
+-- a timer's bytes, or a packet's
 pub data Item : Type 0 where
   timer : List ℕ → Item
   packet : List ℕ → Item
 
--- its items, and whether the input is whole: not 'input that is short, a count included, or has a byte left over'
+-- its items, and whether the input is whole, which 'input that is short, a count included, or has a byte left over' is not
 pub record Contents : Type 0 where
   pub items : List Item
   pub whole : Bool
@@ -36,7 +37,7 @@ abbrev pub ended : List ℕ → Contents
 ended [] = noMore true
 ended (x ∷ xs) = noMore false
 
--- 'in the short case nothing is printed for the item cut'
+-- 'in the short case nothing is printed for the item cut': it is none
 abbrev pub onPacket : (List ℕ → Contents) → Next → Contents
 onPacket rest short = noMore false
 onPacket rest (item i xs) = onto (packet i ∷ []) (rest xs)

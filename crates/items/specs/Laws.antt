@@ -9,7 +9,7 @@ use Rattle.answer.specs.Lists.{count}
 use Rattle.items.specs.declared.Split.{Split}
 use Rattle.items.specs.declared.Taken.{Taken}
 use Rattle.items.specs.Items.{Item, timer, packet, Contents, noMore, onto, itemsOf}
-use Rattle.items.specs.Pieces.{unsplit, splitAfter, pieceItems, takenFrom, wholeAt, leftOver, longestSheet, decidingAfter}
+use Rattle.items.specs.Pieces.{itemsFound, unsplit, splitAfter, pieceItems, takenFrom, wholeAt, leftOver, longestSheet, decidingAfter}
 
 -- pieces of input, put together
 abbrev pub joined : List (List ℕ) → List ℕ
@@ -32,6 +32,12 @@ pub record Laws : Type 0 where
   pub settled : (s : Split) (ps : List (List ℕ)) → leftOver (s .stage) ≡ true → found ps s ≡ noMore false
   -- and so it is after more bytes than the longest sheet has
   pub longest-sheet : (p : List ℕ) → ((i : ℕ) → getD p i 0 < 256) → longestSheet < length p → leftOver (splitAfter p unsplit .stage) ≡ true
+  -- what `take` finds are the items of the bytes that it takes, one at most, and those of the bytes after them are the others; it takes
+  -- one byte at least where there is one
+  pub taken : (piece : List ℕ) (from : ℕ) (s : Split) → from ≤ length piece → let r = takenFrom (drop from piece) from s in
+      (pieceItems (drop from piece) s ≡ itemsFound (r .found) (r .split .held) ++ pieceItems (drop (r .at) piece) (r .split))
+      × (splitAfter (drop from piece) s ≡ splitAfter (drop (r .at) piece) (r .split))
+      × (from < length piece → from < r .at)
   -- no sheet holds more than 65,535 packets
   pub few-packets : (p : List ℕ) → ((i : ℕ) → getD p i 0 < 256) → count isPacket (itemsOf p .items) ≤ 65535
   -- each call's promise allows one outcome

@@ -6,20 +6,20 @@ use lib.Dec.{leb, eqb}
 use lib.ListN.{take, set, replicate}
 use Rattle.answer.specs.Bytes.{numberOf}
 use Rattle.items.specs.declared.Stage.{Stage}
-use Rattle.items.specs.declared.Stage.the-variants.{TimerCount, Timers, PacketCount, Packets, Played, LeftOver}
+use Rattle.items.specs.declared.Stage.the-variants.{TimerCount, Timers, PacketCount, Packets, Complete, LeftOver}
 use Rattle.items.specs.declared.Split.{Split}
 use Rattle.items.specs.declared.Found.{Found}
 use Rattle.items.specs.declared.Found.the-variants.{Nothing, Timer, Packet}
 use Rattle.items.specs.declared.Taken.{Taken}
 use Rattle.items.specs.Items.{Item, timer, packet}
 
--- how many bytes the next item has; a count and what is left over are items here too
+-- how many bytes come next: a count, a timer, a packet, or one that is left over
 abbrev pub need : Stage → ℕ
 need TimerCount = 1
 need (Timers n) = 6
 need PacketCount = 2
 need (Packets n) = 47
-need Played = 1
+need Complete = 1
 need LeftOver = 1
 
 -- the stage of n timers, or of n packets, that are left
@@ -27,14 +27,14 @@ abbrev pub timersLeft : ℕ → Stage
 timersLeft n = cond (eqb n 0) PacketCount (Timers n)
 
 abbrev pub packetsLeft : ℕ → Stage
-packetsLeft n = cond (eqb n 0) Played (Packets n)
+packetsLeft n = cond (eqb n 0) Complete (Packets n)
 
 abbrev pub stageAfter : Stage → List ℕ → Stage
 stageAfter TimerCount i = timersLeft (numberOf i)
 stageAfter (Timers n) i = timersLeft (n - 1)
 stageAfter PacketCount i = packetsLeft (numberOf i)
 stageAfter (Packets n) i = packetsLeft (n - 1)
-stageAfter Played i = LeftOver
+stageAfter Complete i = LeftOver
 stageAfter LeftOver i = LeftOver
 
 -- which of a sheet's items is whole with its last byte
@@ -43,7 +43,7 @@ foundAt TimerCount = Nothing
 foundAt (Timers n) = Timer
 foundAt PacketCount = Nothing
 foundAt (Packets n) = Packet
-foundAt Played = Nothing
+foundAt Complete = Nothing
 foundAt LeftOver = Nothing
 
 -- the items of that kind among the bytes held
@@ -96,7 +96,7 @@ mayEnd TimerCount = false
 mayEnd (Timers n) = false
 mayEnd PacketCount = false
 mayEnd (Packets n) = false
-mayEnd Played = true
+mayEnd Complete = true
 mayEnd LeftOver = false
 
 -- whether input is whole that stops here; where its end was not seen it is short, whatever there was of it
@@ -109,7 +109,7 @@ leftOver TimerCount = false
 leftOver (Timers n) = false
 leftOver PacketCount = false
 leftOver (Packets n) = false
-leftOver Played = false
+leftOver Complete = false
 leftOver LeftOver = true
 
 -- a sheet of which nothing has arrived

@@ -15,7 +15,7 @@ pub enum Stage {
     Timers(u32),
     PacketCount,
     Packets(u32),
-    Played,
+    Complete,
     LeftOver,
 }
 

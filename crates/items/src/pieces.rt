@@ -30,7 +30,7 @@ impl Split {
     {
         Split {
             stage: Stage::TimerCount,
-            have: 0,
+            have: 0, // nothing has arrived
             held: [0; 47],
         }
     }

@@ -16,7 +16,7 @@ pub(crate) fn last_place(stage: Stage) -> usize
         Stage::Timers(_) => 5,
         Stage::PacketCount => 1,
         Stage::Packets(_) => 46,
-        Stage::Played => 0,
+        Stage::Complete => 0,
         Stage::LeftOver => 0,
     }
 }
@@ -34,7 +34,7 @@ fn packets_left(n: u32) -> Stage
     ensures { λ r. ⌜ r ≡ packetsLeft n ⌝ }
 {
     if n == 0 {
-        return Stage::Played;
+        return Stage::Complete;
     }
     Stage::Packets(n)
 }
@@ -57,7 +57,7 @@ pub(crate) fn stage_after(stage: Stage, held: [u8; 47]) -> Stage
         Stage::Timers(n) => timers_left(one_less(n)),
         Stage::PacketCount => packets_left(pair(held[0], held[1]) as u32),
         Stage::Packets(n) => packets_left(one_less(n)),
-        Stage::Played => Stage::LeftOver,
+        Stage::Complete => Stage::LeftOver,
         Stage::LeftOver => Stage::LeftOver,
     }
 }
@@ -70,7 +70,7 @@ pub(crate) fn found_at(stage: Stage) -> Found
         Stage::Timers(_) => Found::Timer,
         Stage::PacketCount => Found::Nothing,
         Stage::Packets(_) => Found::Packet,
-        Stage::Played => Found::Nothing,
+        Stage::Complete => Found::Nothing,
         Stage::LeftOver => Found::Nothing,
     }
 }
@@ -82,9 +82,9 @@ pub(crate) fn may_end(stage: Stage) -> bool
     match stage {
         Stage::TimerCount => false,
         Stage::Timers(_) => false,
-        Stage::PacketCount => false, // short: the count is missing
+        Stage::PacketCount => false, // short of a count
         Stage::Packets(_) => false,
-        Stage::Played => true,
+        Stage::Complete => true,
         Stage::LeftOver => false,
     }
 }
@@ -97,7 +97,7 @@ pub(crate) fn is_left_over(stage: Stage) -> bool
         Stage::Timers(_) => false,
         Stage::PacketCount => false,
         Stage::Packets(_) => false,
-        Stage::Played => false,
+        Stage::Complete => false,
         Stage::LeftOver => true,
     }
 }

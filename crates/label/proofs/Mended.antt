@@ -60,9 +60,15 @@ mended-sum p {a} {b} {c} {n} e f g h = regroup a b c n ∙ rw (e, f, g, h)
     regroup : (a b c n : ℕ) → a + b + c + n ≡ a + (b + (c + n))
     regroup a b c n = omega arith
 
-pub at-most-16 : (p : List ℕ) → mendedIn p ≤ 16
+pub few-mended : (p : List ℕ) → mendedIn p ≤ 16
 unfolding mendedIn
-at-most-16 p = let l = count-length (mendedAt p) hammingBytes in omega arith
+few-mended p = let l = count-length (mendedAt p) hammingBytes in omega arith
+
+pub at-most-16 : (p : List ℕ) (r : Received) → receptionOf p ≡ given r → r .mended ≤ 16
+unfolding receptionOf
+at-most-16 p r e =
+    let a = accepted (with (mendedIn p) (labelIn p)) r (readerRows p) e in
+    rw (ap (λ (x : Received). x .mended) (sym (a .1))) (few-mended p)
 
 pub only-received : (p q : List ℕ) → length p ≡ length q → AtEach (λ i. getD p i 0 ≡ getD q i 0) → receptionOf p ≡ receptionOf q
 unfolding mendedIn

@@ -14,7 +14,7 @@ use Rattle.label.specs.declared.Refusal.{Refusal}
 use Rattle.label.specs.declared.Written.{Written}
 use Rattle.label.specs.declared.pil.Service.the-variants.{Programme, TimerControl, InhibitTerminate, Interruption, Continuation, NoSpecificValue}
 use Rattle.label.specs.Layout.{numberFrom}
-use Rattle.label.specs.Packet.{refusalNumber, readingOf, mendedIn, receptionOf, writtenNumber, writingOf, put, putRight, valueAt, hammingBytes}
+use Rattle.label.specs.Packet.{refusalNumber, readingOf, receptionOf, writtenNumber, writingOf, put, putRight, valueAt, hammingBytes}
 use Rattle.label.specs.Pil.{partsOf, serviceOf}
 
 -- something holds at each of the sixteen bytes
@@ -83,7 +83,7 @@ pub record Laws : Type 0 where
   -- no byte but the sixteen changes what is received
   pub only-received : (p q : List ℕ) → length p ≡ length q → AtEach (λ i. getD p i 0 ≡ getD q i 0) → receptionOf p ≡ receptionOf q
   -- no more than the sixteen are mended
-  pub at-most-16 : (p : List ℕ) → mendedIn p ≤ 16
+  pub at-most-16 : (p : List ℕ) (r : Received) → receptionOf p ≡ given r → r .mended ≤ 16
   -- the service codes are those of clause 6.2 e), bit by bit
   pub timer-control : serviceOf 0b00000_1111_11111_111111 ≡ TimerControl
   pub inhibit-terminate : serviceOf 0b00000_1111_11110_111111 ≡ InhibitTerminate

@@ -79,7 +79,7 @@ readingOf p = firstOf (readerRows p) (labelIn p)
 unfoldable pub mendedIn : List ℕ → ℕ
 mendedIn p = count (mendedAt p) hammingBytes
 
--- 'the label and how many of its sixteen bytes were mended'; 'a refused packet gets its number alone'
+-- 'the label and how many of its sixteen bytes .. were mended'; 'a refused packet gets its number alone'
 unfoldable pub receptionOf : List ℕ → Answer Received
 receptionOf p = firstOf (readerRows p) (record { label = labelIn p; mended = mendedIn p })
 

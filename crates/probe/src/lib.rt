@@ -66,6 +66,7 @@ fn fill(r: Received, out: &mut [u8])
     out[13] = r.mended;
 }
 
+// Fourteen bytes are filled: the label's thirteen, and the count of mended bytes.
 #[no_mangle]
 pub extern "C" fn probe_read(bytes: &[u8], out: &mut [u8]) -> u8
     ensures { λ r. ⌜ (r ≡ number (readInto (now (bytes .entry)) (now (out .entry)))) × (now (out .exit) ≡ after (now (out .entry)) (readInto (now (bytes .entry)) (now (out .entry)))) ⌝ }

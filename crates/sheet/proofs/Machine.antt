@@ -1,12 +1,12 @@
 -- A sheet played piece by piece prints what the definition over the whole input says.
 use Prim.Native.Nat.{ℕ}
 use mathlib.Core.Path.{_≡_, refl, sym, ap, _∙_}
-use mathlib.Core.Bool.{true, false}
+use mathlib.Core.Bool.{true}
 use mathlib.Core.List.{List, [], _∷_, _++_, append-assoc}
 use Rattle.desk.specs.declared.Desk.{Desk}
 use Rattle.desk.specs.Moments.{fresh}
 use Rattle.items.specs.Items.{Item, Contents}
-use Rattle.items.specs.Pieces.{unsplit, splitAfter, pieceItems, leftOver}
+use Rattle.items.specs.Pieces.{splitAfter, pieceItems, leftOver}
 use Rattle.items.specs.Laws.{joined, found}
 use Rattle.items.proofs.Machine as split
 use Rattle.sheet.specs.declared.Sheet.{Sheet}

@@ -6,7 +6,7 @@ use mathlib.Core.List.{List, [], _∷_}
 use native.Mathlib.Omega.{arith}
 use lib.Dec.{ltb}
 use lib.ListN.{length, take, drop, getD, length-map, length-set}
-use Rattle.answer.specs.Answer.{Answer, refused, given, Row, firstOf, andThen, number, after}
+use Rattle.answer.specs.Answer.{Answer, refused, given, firstOf, andThen, number, after}
 use Rattle.answer.proofs.Counts.{count-length}
 use Rattle.answer.proofs.Every.{first-holds}
 use Rattle.label.specs.declared.Label.{Label}

@@ -1,4 +1,5 @@
 // Standard input and output for the programs that read a sheet. What cannot be read or written is told on standard error.
+ghost use mathlib.Core.Path.{_≡_};
 ghost use Rattle.io.specs.Counts.{Counts};
 use libc::EINTR;
 use libc::STDIN_FILENO;
@@ -36,6 +37,7 @@ fn given(got: isize, piece: &[u8], failed: &[u8]) -> Got
 // One read, tried again where it is interrupted; where it fails, `failed` is told.
 pub fn read(piece: &mut [u8], failed: &[u8]) -> Got
     ensures { λ r. ⌜ Counts (r .count) (now (piece .exit)) ⌝ }
+    ensures { λ r. ⌜ now (failed .exit) ≡ now (failed .entry) ⌝ }
 {
     let mut tries = TRIES;
     while tries > 0 {
@@ -49,7 +51,9 @@ pub fn read(piece: &mut [u8], failed: &[u8]) -> Got
 }
 
 // The first n bytes; where they cannot be written, or there are not so many, `failed` is told.
-pub fn write(out: &[u8], n: usize, failed: &[u8]) -> bool {
+pub fn write(out: &[u8], n: usize, failed: &[u8]) -> bool
+    ensures { λ r. ⌜ (now (out .exit) ≡ now (out .entry)) × (now (failed .exit) ≡ now (failed .entry)) ⌝ }
+{
     if n <= out.len() {
         if io::write_all(STDOUT_FILENO, &out[..n]) {
             return true;

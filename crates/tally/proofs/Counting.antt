@@ -15,16 +15,16 @@ use Rattle.answer.proofs.Cases.{by-test}
 use Rattle.answer.proofs.Every.{first-holds}
 use Rattle.label.specs.declared.Received.{Received}
 use Rattle.label.specs.Packet.{readerRows, labelIn, mendedIn, receptionOf}
-use Rattle.label.proofs.Mended.{at-most-16}
+use Rattle.label.proofs.Mended.{few-mended}
 use Rattle.items.specs.Items.{Item, timer, packet}
 use Rattle.items.specs.Laws.{isPacket}
-use Rattle.tally.specs.declared.Heard.{Heard}
+use Rattle.tally.specs.declared.Tuner.{Tuner}
 use Rattle.tally.specs.Aerial.{tunerIn, receptionIn, receptions, isClean, isMended, mendedBytes, mendedInAll, isRefused, heardFrom}
-use Rattle.tally.specs.Pieces.{most, grown, silence, afterPacket, afterItem, afterItems}
+use Rattle.tally.specs.Pieces.{most, grown, silence, afterPacket, countedItem, countedItems}
 
 -- ── its bytes ──────────────────────────────────────────────────────────────────────────────────────────────────────
-pub packet-at : (held : List ℕ) (hs : List Heard) → length held ≡ 47 →
-    afterItem (packet (take 47 held)) hs
+pub packet-at : (held : List ℕ) (hs : List Tuner) → length held ≡ 47 →
+    countedItem (packet (take 47 held)) hs
     ≡ set hs (getD held 4 0) (afterPacket (receptionOf (take 42 (drop 5 held))) (getD hs (getD held 4 0) silence))
 packet-at held hs h = rw (take-all 47 held (omega arith), take-all 42 (drop 5 held) (omega (arith, length-drop 5 held)))
 
@@ -33,21 +33,21 @@ packet-at held hs h = rw (take-all 47 held (omega arith), take-all 42 (drop 5 he
 mended-small : (p : List ℕ) → mendedBytes (receptionOf p) ≤ 16
 unfolding receptionOf
 mended-small p =
-    first-holds (λ x. mendedBytes x ≤ 16) (record { label = labelIn p; mended = mendedIn p }) (readerRows p) (omega arith) (λ none. at-most-16 p)
+    first-holds (λ x. mendedBytes x ≤ 16) (record { label = labelIn p; mended = mendedIn p }) (readerRows p) (omega arith) (λ none. few-mended p)
 
 heard-is : {a b c d p q r s : ℕ} → a ≡ p → b ≡ q → c ≡ r → d ≡ s →
-    _≡_ {A = Heard} (record { clean = a; mended = b; bytes = c; refused = d }) (record { clean = p; mended = q; bytes = r; refused = s })
+    _≡_ {A = Tuner} (record { clean = a; mended = b; bytes = c; refused = d }) (record { clean = p; mended = q; bytes = r; refused = s })
 heard-is e f g h = λ i. record { clean = e i; mended = f i; bytes = g i; refused = h i }
 
 -- what it is counted as
-abbrev one : Answer Received → Heard
+abbrev one : Answer Received → Tuner
 one a = record { clean = cond (isClean a) 1 0; mended = cond (isMended a) 1 0; bytes = mendedBytes a; refused = cond (isRefused a) 1 0 }
 
-abbrev pub plus : Heard → Heard → Heard
+abbrev pub plus : Tuner → Tuner → Tuner
 plus h g = record { clean = h .clean + g .clean; mended = h .mended + g .mended; bytes = h .bytes + g .bytes; refused = h .refused + g .refused }
 
 -- there is room for n packets more
-pub record Room (n : ℕ) (h : Heard) : Type 0 where
+pub record Room (n : ℕ) (h : Tuner) : Type 0 where
   pub clean : h .clean + n ≤ most
   pub mended : h .mended + n ≤ most
   pub bytes : h .bytes + 16 * n ≤ most
@@ -57,7 +57,7 @@ grown-is : (n k : ℕ) → n + k ≤ most → grown n k ≡ n + k
 unfolding grown
 grown-is n k h = rw (le-leb (n + k) most h)
 
-packet-plus : (a : Answer Received) (h : Heard) → mendedBytes a ≤ 16 → Room 1 h → afterPacket a h ≡ plus h (one a)
+packet-plus : (a : Answer Received) (h : Tuner) → mendedBytes a ≤ 16 → Room 1 h → afterPacket a h ≡ plus h (one a)
 packet-plus (refused n) h l r =
     heard-is (sym (add-zero (h .clean))) (sym (add-zero (h .mended))) (sym (add-zero (h .bytes))) (grown-is (h .refused) 1 (r .refused))
 packet-plus (given x) h l r =
@@ -71,13 +71,13 @@ packet-plus (given x) h l r =
     (sym (add-zero (h .refused)))))
 
 -- ── all of them ────────────────────────────────────────────────────────────────────────────────────────────────────
-plus-none : (h : Heard) → plus h silence ≡ h
+plus-none : (h : Tuner) → plus h silence ≡ h
 plus-none h = heard-is (add-zero (h .clean)) (add-zero (h .mended)) (add-zero (h .bytes)) (add-zero (h .refused))
 
-pub none-plus : (h : Heard) → plus silence h ≡ h
+pub none-plus : (h : Tuner) → plus silence h ≡ h
 none-plus h = heard-is (zero-add (h .clean)) (zero-add (h .mended)) (zero-add (h .bytes)) (zero-add (h .refused))
 
-plus-plus : (h g f : Heard) → plus (plus h g) f ≡ plus h (plus g f)
+plus-plus : (h g f : Tuner) → plus (plus h g) f ≡ plus h (plus g f)
 plus-plus h g f =
     heard-is (sums (h .clean) (g .clean) (f .clean)) (sums (h .mended) (g .mended) (f .mended)) (sums (h .bytes) (g .bytes) (f .bytes))
     (sums (h .refused) (g .refused) (f .refused))
@@ -85,7 +85,7 @@ plus-plus h g f =
     sums : (a b c : ℕ) → a + b + c ≡ a + (b + c)
     sums a b c = omega arith
 
-fewer : (m n : ℕ) (h : Heard) → m ≤ n → Room n h → Room m h
+fewer : (m n : ℕ) (h : Tuner) → m ≤ n → Room n h → Room m h
 fewer m n h l r = record {
   clean = omega (arith, r .clean);
   mended = omega (arith, r .mended);
@@ -93,7 +93,7 @@ fewer m n h l r = record {
   refused = omega (arith, r .refused);
 }
 
-room-less : (n : ℕ) (a : Answer Received) (h : Heard) → mendedBytes a ≤ 16 → Room (1 + n) h → Room n (plus h (one a))
+room-less : (n : ℕ) (a : Answer Received) (h : Tuner) → mendedBytes a ≤ 16 → Room (1 + n) h → Room n (plus h (one a))
 room-less n (refused m) h l r = record {
   clean = omega (arith, r .clean);
   mended = omega (arith, r .mended);
@@ -117,13 +117,13 @@ room-less n (given x) h l r = go (eqb (x .mended) 0)
     }
 
 -- of some answers of the reader
-abbrev heardBy : List (Answer Received) → Heard
+abbrev heardBy : List (Answer Received) → Tuner
 heardBy rs = record { clean = count isClean rs; mended = count isMended rs; bytes = mendedInAll rs; refused = count isRefused rs }
 
 -- the packets of one tuner
-pub heard-more : (is : List Item) (hs : List Heard) (k : ℕ) → k < length hs → Room (count isPacket is) (getD hs k silence) →
-    getD (afterItems is hs) k silence ≡ plus (getD hs k silence) (heardFrom k is)
-unfolding afterItems heardFrom receptions
+pub heard-more : (is : List Item) (hs : List Tuner) (k : ℕ) → k < length hs → Room (count isPacket is) (getD hs k silence) →
+    getD (countedItems is hs) k silence ≡ plus (getD hs k silence) (heardFrom k is)
+unfolding countedItems heardFrom receptions
 heard-more [] hs k l r = sym (plus-none (getD hs k silence))
 heard-more (timer i ∷ is) hs k l r = heard-more is hs k l (fewer (count isPacket is) (count isPacket (timer i ∷ is)) (getD hs k silence) (omega arith) r)
 heard-more (packet i ∷ is) hs k l r = go (eqb j k) refl (heard-more is more k (omega (arith, length-set hs j (afterPacket a (getD hs j silence)))))
@@ -143,11 +143,11 @@ heard-more (packet i ∷ is) hs k l r = go (eqb j k) refl (heard-more is more k 
     rs : List (Answer Received)
     rs = receptions k is
 
-    h : Heard
+    h : Tuner
     h = getD hs k silence
 
-    more : List Heard
-    more = afterItem (packet i) hs
+    more : List Tuner
+    more = countedItem (packet i) hs
 
     -- at this tuner one packet more, and at the others none
     here : j ≡ k → getD more k silence ≡ plus h (one a)
@@ -159,20 +159,20 @@ heard-more (packet i ∷ is) hs k l r = go (eqb j k) refl (heard-more is more k 
     there : (j ≡ k → ⊥) → getD more k silence ≡ h
     there q = getD-set-other hs j k (afterPacket a (getD hs j silence)) silence (λ e. q (sym e))
 
-    go : (w : Bool) → eqb j k ≡ w → (Room n (getD more k silence) → getD (afterItems is more) k silence ≡ plus (getD more k silence) (heardBy rs)) →
-        getD (afterItems is more) k silence ≡ plus h (heardBy (cond w (a ∷ rs) rs))
+    go : (w : Bool) → eqb j k ≡ w → (Room n (getD more k silence) → getD (countedItems is more) k silence ≡ plus (getD more k silence) (heardBy rs)) →
+        getD (countedItems is more) k silence ≡ plus h (heardBy (cond w (a ∷ rs) rs))
     go true e ih =
         let q = here (eqb-true j k e) in
-        ih (rw q (room-less n a h small r)) ∙ ap (λ (x : Heard). plus x (heardBy rs)) q ∙ plus-plus h (one a) (heardBy rs)
+        ih (rw q (room-less n a h small r)) ∙ ap (λ (x : Tuner). plus x (heardBy rs)) q ∙ plus-plus h (one a) (heardBy rs)
     go false e ih =
         let q = there (eqb-false j k e) in
-        ih (rw q (fewer n (1 + n) h (omega arith) r)) ∙ ap (λ (x : Heard). plus x (heardBy rs)) q
+        ih (rw q (fewer n (1 + n) h (omega arith) r)) ∙ ap (λ (x : Tuner). plus x (heardBy rs)) q
 
 -- ── how much they come to ──────────────────────────────────────────────────────────────────────────────────────────
-abbrev Few : ℕ → Heard → Type 0
+abbrev Few : ℕ → Tuner → Type 0
 Few m h = (h .clean + h .mended + h .refused ≤ m) × (h .bytes ≤ 16 * m)
 
--- so many packets at most came from each tuner, of sixteen bytes each
+-- so many packets at most came from each tuner, with sixteen mended bytes each
 pub heard-few : (is : List Item) (k : ℕ) → Few (count isPacket is) (heardFrom k is)
 unfolding heardFrom receptions
 heard-few [] k = (omega arith, omega arith)
@@ -193,3 +193,20 @@ heard-few (packet i ∷ is) k = go (eqb (tunerIn i) k) (receptionIn i) (mended-s
     go : (w : Bool) (a : Answer Received) → mendedBytes a ≤ 16 → Few n (heardBy rs) → Few (1 + n) (heardBy (cond w (a ∷ rs) rs))
     go true a l r = one-few a l r
     go false a l r = (omega (arith, r .0), omega (arith, r .1))
+
+-- each is counted once
+one-counted : (a : Answer Received) → cond (isClean a) 1 0 + cond (isMended a) 1 0 + cond (isRefused a) 1 0 ≡ 1
+one-counted (refused n) = refl
+one-counted (given r) = go (eqb (r .mended) 0)
+  where
+    go : (t : Bool) → cond t 1 0 + cond (not t) 1 0 + 0 ≡ 1
+    go true = refl
+    go false = refl
+
+all-counted : (rs : List (Answer Received)) → count isClean rs + count isMended rs + count isRefused rs ≡ length rs
+all-counted [] = refl
+all-counted (a ∷ rs) = omega (arith, one-counted a, all-counted rs)
+
+pub once : (k : ℕ) (is : List Item) → let h = heardFrom k is in h .clean + h .mended + h .refused ≡ length (receptions k is)
+unfolding heardFrom
+once k is = all-counted (receptions k is)

@@ -1,22 +1,22 @@
 -- A piece, item by item: the invariant of the loop over them.
-use Prim.Native.Nat.{ℕ, _≤_, _<_}
+use Prim.Native.Nat.{ℕ, _≤_}
 use mathlib.Core.Path.{_≡_, refl, sym, _∙_}
 use mathlib.Core.List.{List, []}
 use lib.ListN.{length, drop, drop-of-length-le}
 use Rattle.items.specs.declared.Taken.{Taken}
 use Rattle.items.specs.Pieces.{itemsFound, splitAfter, pieceItems, takenFrom}
 use Rattle.items.proofs.Taking.{Taking, taking}
-use Rattle.tally.specs.declared.Heard.{Heard}
+use Rattle.tally.specs.declared.Tuner.{Tuner}
 use Rattle.tally.specs.declared.Tally.{Tally}
-use Rattle.tally.specs.Pieces.{afterItems, afterPiece}
+use Rattle.tally.specs.Pieces.{countedItems, afterPiece}
 use Rattle.tally.proofs.Machine.{items-more}
 
 none : (t : Tally) → afterPiece [] t ≡ t
-unfolding afterPiece splitAfter pieceItems afterItems
+unfolding afterPiece splitAfter pieceItems countedItems
 none t = refl
 
 one-more : (piece : List ℕ) (i : ℕ) (t : Tally) (r : Taken) → Taking piece i (t .split) r →
-    afterPiece (drop i piece) t ≡ afterPiece (drop (r .at) piece) (record { split = r .split; tuners = afterItems (itemsFound (r .found) (r .split .held)) (t .tuners) })
+    afterPiece (drop i piece) t ≡ afterPiece (drop (r .at) piece) (record { split = r .split; tuners = countedItems (itemsFound (r .found) (r .split .held)) (t .tuners) })
 unfolding afterPiece
 one-more piece i t r g =
     rw (g .items, g .after, items-more (itemsFound (r .found) (r .split .held)) (pieceItems (drop (r .at) piece) (r .split)) (t .tuners))
@@ -28,8 +28,8 @@ pub record Along (piece : List ℕ) (t₀ t : Tally) (i : ℕ) : Type 0 where
 
 module _ {piece : List ℕ} {t₀ t : Tally} {i : ℕ} (along : Along piece t₀ t i) where
   -- past the bytes that `take` has taken, with what was found among them counted
-  pub further : (r : Taken) → r ≡ takenFrom (drop i piece) i (t .split) → {hs : List Heard} →
-      hs ≡ afterItems (itemsFound (r .found) (r .split .held)) (t .tuners) → Along piece t₀ (record { split = r .split; tuners = hs }) (r .at)
+  pub further : (r : Taken) → r ≡ takenFrom (drop i piece) i (t .split) → {hs : List Tuner} →
+      hs ≡ countedItems (itemsFound (r .found) (r .split .held)) (t .tuners) → Along piece t₀ (record { split = r .split; tuners = hs }) (r .at)
   further r e eh =
       let g : Taking piece i (t .split) r = rw e (taking piece i (t .split) (along .within)) in
       rw eh (record { same = sym (one-more piece i t r g) ∙ along .same; within = g .within })

@@ -1,48 +1,48 @@
 -- A sheet's packets counted piece by piece come to what the definition over the whole input says.
 use Prim.Native.Nat.{ℕ, zero, suc, _+_, _*_, _≤_, _<_}
-use mathlib.Core.Path.{_≡_, refl, sym, ap, ap₂, _∙_}
+use mathlib.Core.Path.{_≡_, refl, sym, ap, _∙_}
 use mathlib.Core.Bool.{Bool, true, false}
 use mathlib.Core.List.{List, [], _∷_, _++_}
 use native.Mathlib.Omega.{arith}
 use lib.ListN.{getD, replicate}
 use Rattle.answer.specs.Lists.{count}
 use Rattle.items.specs.Items.{Item, Contents, itemsOf}
-use Rattle.items.specs.Pieces.{unsplit, splitAfter, pieceItems, leftOver}
+use Rattle.items.specs.Pieces.{splitAfter, pieceItems, leftOver}
 use Rattle.items.specs.Laws.{joined, found, isPacket}
 use Rattle.items.proofs.Machine as split
 use Rattle.items.proofs.Longest.{few-packets}
-use Rattle.tally.specs.declared.Heard.{Heard}
+use Rattle.tally.specs.declared.Tuner.{Tuner}
 use Rattle.tally.specs.declared.Tally.{Tally}
-use Rattle.tally.specs.Aerial.{heardFrom, tunerLine, lastLine, report, aerialOf}
-use Rattle.tally.specs.Pieces.{silence, afterItem, afterItems, afterPiece, blank, endTold}
+use Rattle.tally.specs.Aerial.{heardFrom, report, aerialOf}
+use Rattle.tally.specs.Pieces.{silence, countedItem, countedItems, afterPiece, blank, endTold}
 use Rattle.tally.specs.Laws.{printed}
 use Rattle.tally.proofs.Counting.{plus, none-plus, heard-more, heard-few}
 
 -- some items, and then others
-pub items-more : (is js : List Item) (hs : List Heard) → afterItems (is ++ js) hs ≡ afterItems js (afterItems is hs)
-unfolding afterItems
+pub items-more : (is js : List Item) (hs : List Tuner) → countedItems (is ++ js) hs ≡ countedItems js (countedItems is hs)
+unfolding countedItems
 items-more [] js hs = refl
-items-more (i ∷ is) js hs = items-more is js (afterItem i hs)
+items-more (i ∷ is) js hs = items-more is js (countedItem i hs)
 
 -- what contents print, from four tuners on
-abbrev says : Contents → List Heard → List ℕ
-says c hs = report (λ k. getD (afterItems (c .items) hs) k silence) (c .whole)
+abbrev says : Contents → List Tuner → List ℕ
+says c hs = report (λ k. getD (countedItems (c .items) hs) k silence) (c .whole)
 
 printed-says : (ps : List (List ℕ)) (t : Tally) → printed ps t ≡ says (found ps (t .split)) (t .tuners)
-unfolding afterPiece endTold afterItems
+unfolding afterPiece endTold countedItems
 printed-says [] t = refl
 printed-says (p ∷ ps) t =
     let is = pieceItems p (t .split) in
     let c = found ps (splitAfter p (t .split)) in
     printed-says ps (afterPiece p t)
-    ∙ ap (λ (hs : List Heard). report (λ k. getD hs k silence) (c .whole)) (sym (items-more is (c .items) (t .tuners)))
+    ∙ ap (λ (hs : List Tuner). report (λ k. getD hs k silence) (c .whole)) (sym (items-more is (c .items) (t .tuners)))
 
 pub settled : (t : Tally) (ps : List (List ℕ)) → leftOver (t .split .stage) ≡ true → printed ps t ≡ report (λ k. getD (t .tuners) k silence) false
-unfolding afterItems
+unfolding countedItems
 settled t ps e = printed-says ps t ∙ ap (λ (c : Contents). says c (t .tuners)) (split.settled (t .split) ps e)
 
 -- a report is that of what the four tuners heard
-same-report : (f g : ℕ → Heard) (whole : Bool) → ((k : ℕ) → k < 4 → f k ≡ g k) → report f whole ≡ report g whole
+same-report : (f g : ℕ → Tuner) (whole : Bool) → ((k : ℕ) → k < 4 → f k ≡ g k) → report f whole ≡ report g whole
 unfolding report
 same-report f g whole e = rw (e 0 (omega arith), e 1 (omega arith), e 2 (omega arith), e 3 (omega arith))
 
@@ -54,12 +54,12 @@ silent-at (suc (suc (suc zero))) = refl
 silent-at (suc (suc (suc (suc k)))) = refl
 
 -- from nothing on
-heard-all : (is : List Item) (k : ℕ) → k < 4 → count isPacket is ≤ 65535 → getD (afterItems is (replicate 4 silence)) k silence ≡ heardFrom k is
+heard-all : (is : List Item) (k : ℕ) → k < 4 → count isPacket is ≤ 65535 → getD (countedItems is (replicate 4 silence)) k silence ≡ heardFrom k is
 heard-all is k l few =
     let e = silent-at k in
     heard-more is (replicate 4 silence) k l
     (rw e (record { clean = omega arith; mended = omega arith; bytes = omega arith; refused = omega arith }))
-    ∙ ap (λ (h : Heard). plus h (heardFrom k is)) e
+    ∙ ap (λ (h : Tuner). plus h (heardFrom k is)) e
     ∙ none-plus (heardFrom k is)
 
 pub pieces : (ps : List (List ℕ)) → ((i : ℕ) → getD (joined ps) i 0 < 256) → printed ps blank ≡ aerialOf (joined ps)

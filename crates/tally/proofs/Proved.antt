@@ -4,6 +4,7 @@ use Rattle.answer.proofs.Answers.{equation, paired}
 use Rattle.items.specs.Pieces.{leftOver}
 use Rattle.tally.specs.Laws.{Laws}
 use Rattle.tally.specs.Pieces.{blank, afterPiece, reportedBy, outAfter}
+use Rattle.tally.proofs.Counting.{once}
 use Rattle.tally.proofs.Machine.{pieces, settled, small}
 use Rattle.tally.proofs.Rooms.{room}
 
@@ -11,6 +12,7 @@ pub laws : Laws
 laws = record {
   pieces = pieces;
   settled = settled;
+  once = once;
   small = small;
   room = room;
   new-unique = equation blank;

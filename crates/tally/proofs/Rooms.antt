@@ -1,48 +1,48 @@
 -- How long a report is.
 use Prim.Native.Nat.{ℕ, _≤_}
 use mathlib.Core.Bool.{Bool, true, false, cond}
-use mathlib.Core.List.{List, [], _∷_, _++_}
+use mathlib.Core.List.{[], _∷_, _++_}
 use native.Mathlib.Omega.{arith}
 use lib.ListN.{length, length-append}
-use Rattle.answer.specs.Text.{space, lineFeed, digit, decimalIn}
+use Rattle.answer.specs.Text.{lineFeed}
 use Rattle.answer.proofs.Texts.{decimal-short}
 use Rattle.items.specs.Pieces.{wholeAt}
-use Rattle.tally.specs.declared.Heard.{Heard}
+use Rattle.tally.specs.declared.Tuner.{Tuner}
 use Rattle.tally.specs.declared.Tally.{Tally}
-use Rattle.tally.specs.Aerial.{number, aLine, isSilent, tunerLine, lastLine, report}
+use Rattle.tally.specs.Aerial.{column, aLine, isSilent, tunerLine, lastLine, report}
 use Rattle.tally.specs.Pieces.{endTold, longest}
 
-pub number-short : (n : ℕ) → length (number n) ≤ 11
-number-short n = omega (arith, decimal-short 10 n)
+pub column-short : (n : ℕ) → length (column n) ≤ 11
+column-short n = omega (arith, decimal-short 10 n)
 
-line-short : (k : ℕ) (h : Heard) → length (aLine k h) ≤ 48
+line-short : (k : ℕ) (h : Tuner) → length (aLine k h) ≤ 48
 unfolding aLine
 line-short k h =
-    let a = number (h .clean) in
-    let b = number (h .mended) in
-    let c = number (h .bytes) in
-    let d = number (h .refused) in
+    let a = column (h .clean) in
+    let b = column (h .mended) in
+    let c = column (h .bytes) in
+    let d = column (h .refused) in
     let end = lineFeed ∷ [] in
     omega (
       arith,
-      number-short (h .clean),
-      number-short (h .mended),
-      number-short (h .bytes),
-      number-short (h .refused),
+      column-short (h .clean),
+      column-short (h .mended),
+      column-short (h .bytes),
+      column-short (h .refused),
       length-append a (b ++ (c ++ (d ++ end))),
       length-append b (c ++ (d ++ end)),
       length-append c (d ++ end),
       length-append d end,
     )
 
-pub tuner-short : (k : ℕ) (h : Heard) → length (tunerLine k h) ≤ 48
+pub tuner-short : (k : ℕ) (h : Tuner) → length (tunerLine k h) ≤ 48
 tuner-short k h = go (isSilent h)
   where
     go : (t : Bool) → length (cond t [] (aLine k h)) ≤ 48
     go true = omega arith
     go false = line-short k h
 
-report-short : (f : ℕ → Heard) (whole : Bool) → length (report f whole) ≤ longest
+report-short : (f : ℕ → Tuner) (whole : Bool) → length (report f whole) ≤ longest
 unfolding report
 report-short f whole =
     let a = tunerLine 0 (f 0) in

@@ -10,7 +10,7 @@ use Rattle.answer.specs.Text.{space, lineFeed, digit, decimalIn}
 use Rattle.label.specs.declared.Received.{Received}
 use Rattle.label.specs.Packet.{receptionOf}
 use Rattle.items.specs.Items.{Item, timer, packet, itemsOf}
-use Rattle.tally.specs.declared.Heard.{Heard}
+use Rattle.tally.specs.declared.Tuner.{Tuner}
 
 -- ── what came from a tuner ─────────────────────────────────────────────────────────────────────────────────────────
 -- '47 bytes each: time 4, tuner 1, packet 42'
@@ -50,27 +50,28 @@ abbrev pub isRefused : Answer Received → Bool
 isRefused (refused n) = true
 isRefused (given r) = false
 
-unfoldable pub heardFrom : ℕ → List Item → Heard
+-- all four, of one tuner
+unfoldable pub heardFrom : ℕ → List Item → Tuner
 heardFrom k is =
     let rs = receptions k is in
     record { clean = count isClean rs; mended = count isMended rs; bytes = mendedInAll rs; refused = count isRefused rs }
 
 -- ── what is printed ────────────────────────────────────────────────────────────────────────────────────────────────
 -- 'in decimal'; ten digits hold each of the numbers (law `small`)
-abbrev pub number : ℕ → List ℕ
-number n = space ∷ decimalIn 10 n
+abbrev pub column : ℕ → List ℕ
+column n = space ∷ decimalIn 10 n
 
 -- '`A tuner clean mended bytes refused`'
-unfoldable pub aLine : ℕ → Heard → List ℕ
+unfoldable pub aLine : ℕ → Tuner → List ℕ
 aLine k h =
     65 ∷ space ∷ digit k
-    ∷ number (h .clean) ++ (number (h .mended) ++ (number (h .bytes) ++ (number (h .refused) ++ (lineFeed ∷ []))))
+    ∷ column (h .clean) ++ (column (h .mended) ++ (column (h .bytes) ++ (column (h .refused) ++ (lineFeed ∷ []))))
 
--- 'that a packet came from'
-abbrev pub isSilent : Heard → Bool
+-- 'that a packet came from': of a silent tuner nothing is counted (law `once`)
+abbrev pub isSilent : Tuner → Bool
 isSilent h = eqb (h .clean) 0 && eqb (h .mended) 0 && eqb (h .refused) 0
 
-abbrev pub tunerLine : ℕ → Heard → List ℕ
+abbrev pub tunerLine : ℕ → Tuner → List ℕ
 tunerLine k h = cond (isSilent h) [] (aLine k h)
 
 -- 'then `Z`'; 'input that is short or has a byte left over ends with `X` in its place'
@@ -78,9 +79,10 @@ abbrev pub lastLine : Bool → List ℕ
 lastLine whole = cond whole 90 88 ∷ lineFeed ∷ []
 
 -- 'for each of the tuners 0 to 3 .. in order'
-unfoldable pub report : (ℕ → Heard) → Bool → List ℕ
+unfoldable pub report : (ℕ → Tuner) → Bool → List ℕ
 report heard whole =
     tunerLine 0 (heard 0) ++ (tunerLine 1 (heard 1) ++ (tunerLine 2 (heard 2) ++ (tunerLine 3 (heard 3) ++ lastLine whole)))
 
+-- 'one definition over the input's bytes': what came from each tuner among its items
 unfoldable pub aerialOf : List ℕ → List ℕ
 aerialOf xs = let c = itemsOf xs in report (λ k. heardFrom k (c .items)) (c .whole)

@@ -5,11 +5,11 @@ use mathlib.Core.Path.{_≡_}
 use mathlib.Core.List.{List, [], _∷_}
 use lib.ListN.{length, getD}
 use Rattle.answer.specs.Answer.{Unique}
-use Rattle.items.specs.Items.{itemsOf}
+use Rattle.items.specs.Items.{Item, itemsOf}
 use Rattle.items.specs.Pieces.{leftOver}
 use Rattle.items.specs.Laws.{joined}
 use Rattle.tally.specs.declared.Tally.{Tally}
-use Rattle.tally.specs.Aerial.{heardFrom, report, aerialOf}
+use Rattle.tally.specs.Aerial.{receptions, heardFrom, report, aerialOf}
 use Rattle.tally.specs.Pieces.{silence, blank, afterPiece, endTold, longest, reportedBy, outAfter}
 
 -- what is printed after pieces, from a tally on, and then the input's end
@@ -22,7 +22,9 @@ pub record Laws : Type 0 where
   pub pieces : (ps : List (List ℕ)) → ((i : ℕ) → getD (joined ps) i 0 < 256) → printed ps blank ≡ aerialOf (joined ps)
   -- once a byte is left over, whatever follows counts nothing, and `X` ends the report: nothing more need be read
   pub settled : (t : Tally) (ps : List (List ℕ)) → leftOver (t .split .stage) ≡ true → printed ps t ≡ report (λ k. getD (t .tuners) k silence) false
-  -- no sheet has more than 65,535 packets of sixteen bytes each
+  -- each packet of a tuner is counted once: as read clean, as read with mended bytes, or as refused
+  pub once : (k : ℕ) (is : List Item) → let h = heardFrom k is in h .clean + h .mended + h .refused ≡ length (receptions k is)
+  -- no tuner has more than 65,535 packets, nor more than sixteen mended bytes for each
   pub small : (p : List ℕ) → ((i : ℕ) → getD p i 0 < 256) → (k : ℕ) → let h = heardFrom k (itemsOf p .items) in
       (h .clean + h .mended + h .refused ≤ 65535) × (h .bytes ≤ 16 * 65535)
   -- and no report is longer than the room that is asked for it

@@ -9,7 +9,7 @@ use Rattle.answer.specs.Answer.{Answer, refused, given}
 use Rattle.label.specs.declared.Received.{Received}
 use Rattle.items.specs.Items.{Item, timer, packet}
 use Rattle.items.specs.Pieces.{unsplit, splitAfter, pieceItems, wholeAt}
-use Rattle.tally.specs.declared.Heard.{Heard}
+use Rattle.tally.specs.declared.Tuner.{Tuner}
 use Rattle.tally.specs.declared.Tally.{Tally}
 use Rattle.tally.specs.Aerial.{tunerIn, receptionIn, report}
 
@@ -17,36 +17,36 @@ use Rattle.tally.specs.Aerial.{tunerIn, receptionIn, report}
 abbrev pub most : ℕ
 most = 4294967295
 
--- a count grows by k, and stops at the most: no sheet comes to that (law `pieces`)
+-- a count grows by k, and stops at the most: no sheet comes to that (laws `small` and `pieces`)
 unfoldable pub grown : ℕ → ℕ → ℕ
 grown n k = cond (leb (n + k) most) (n + k) most
 
 -- nothing has come from a tuner
-abbrev pub silence : Heard
+abbrev pub silence : Tuner
 silence = record { clean = 0; mended = 0; bytes = 0; refused = 0 }
 
-abbrev pub afterRead : ℕ → Heard → Heard
+abbrev pub afterRead : ℕ → Tuner → Tuner
 afterRead mended h =
     cond (eqb mended 0) (record { clean = grown (h .clean) 1; mended = h .mended; bytes = h .bytes; refused = h .refused })
     (record { clean = h .clean; mended = grown (h .mended) 1; bytes = grown (h .bytes) mended; refused = h .refused })
 
 -- one packet more from a tuner
-abbrev pub afterPacket : Answer Received → Heard → Heard
+abbrev pub afterPacket : Answer Received → Tuner → Tuner
 afterPacket (refused n) h = record { clean = h .clean; mended = h .mended; bytes = h .bytes; refused = grown (h .refused) 1 }
 afterPacket (given r) h = afterRead (r .mended) h
 
 -- a packet is counted at its tuner; one above 3 has no place
-abbrev pub afterItem : Item → List Heard → List Heard
-afterItem (timer i) hs = hs
-afterItem (packet i) hs = set hs (tunerIn i) (afterPacket (receptionIn i) (getD hs (tunerIn i) silence))
+abbrev pub countedItem : Item → List Tuner → List Tuner
+countedItem (timer i) hs = hs
+countedItem (packet i) hs = set hs (tunerIn i) (afterPacket (receptionIn i) (getD hs (tunerIn i) silence))
 
-unfoldable pub afterItems : List Item → List Heard → List Heard
-afterItems [] hs = hs
-afterItems (i ∷ is) hs = afterItems is (afterItem i hs)
+unfoldable pub countedItems : List Item → List Tuner → List Tuner
+countedItems [] hs = hs
+countedItems (i ∷ is) hs = countedItems is (countedItem i hs)
 
 -- after a piece of input
 unfoldable pub afterPiece : List ℕ → Tally → Tally
-afterPiece p t = record { split = splitAfter p (t .split); tuners = afterItems (pieceItems p (t .split)) (t .tuners) }
+afterPiece p t = record { split = splitAfter p (t .split); tuners = countedItems (pieceItems p (t .split)) (t .tuners) }
 
 -- nothing has arrived
 abbrev pub blank : Tally

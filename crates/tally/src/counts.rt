@@ -4,8 +4,8 @@ ghost use lib.ListN.{take};
 ghost use Rattle.items.specs.Items.{packet};
 ghost use Rattle.items.specs.Pieces.{itemsFound};
 ghost use Rattle.label.specs.Packet.{readingAnswer};
-ghost use Rattle.tally.specs.Pieces.{grown, afterRead, afterPacket, afterItem, afterItems};
-use crate::Heard;
+ghost use Rattle.tally.specs.Pieces.{grown, afterRead, afterPacket, countedItem, countedItems};
+use crate::Tuner;
 use items::Found;
 use label::Reading;
 
@@ -22,18 +22,18 @@ fn grown(n: u32, k: u32) -> u32
 }
 
 // 'Packets read clean, packets read with mended bytes, mended bytes in all.'
-fn read_more(h: Heard, mended: u8) -> Heard
+fn read_more(h: Tuner, mended: u8) -> Tuner
     ensures { λ r. ⌜ r ≡ afterRead mended h ⌝ }
 {
     if mended == 0 {
-        return Heard {
+        return Tuner {
             clean: grown(h.clean, 1),
             mended: h.mended,
             bytes: h.bytes,
             refused: h.refused,
         };
     }
-    Heard {
+    Tuner {
         clean: h.clean,
         mended: grown(h.mended, 1),
         bytes: grown(h.bytes, mended as u32),
@@ -42,10 +42,10 @@ fn read_more(h: Heard, mended: u8) -> Heard
 }
 
 // 'Packets refused by the reader (1 to 6).'
-fn refused_more(h: Heard) -> Heard
+fn refused_more(h: Tuner) -> Tuner
     ensures { λ r. ⌜ r ≡ record { clean = h .clean; mended = h .mended; bytes = h .bytes; refused = grown (h .refused) 1 } ⌝ }
 {
-    Heard {
+    Tuner {
         clean: h.clean, // it is not read
         mended: h.mended,
         bytes: h.bytes,
@@ -53,7 +53,7 @@ fn refused_more(h: Heard) -> Heard
     }
 }
 
-fn packet_more(h: Heard, reading: Reading) -> Heard
+fn packet_more(h: Tuner, reading: Reading) -> Tuner
     ensures { λ r. ⌜ r ≡ afterPacket (readingAnswer reading) h ⌝ }
 {
     match reading {
@@ -63,8 +63,8 @@ fn packet_more(h: Heard, reading: Reading) -> Heard
 }
 
 // '47 bytes each: time 4, tuner 1, packet 42.'
-fn counted(tuners: [Heard; 4], held: [u8; 47]) -> [Heard; 4]
-    ensures { λ r. ⌜ r ≡ afterItem (packet (take 47 held)) tuners ⌝ }
+fn counted(tuners: [Tuner; 4], held: [u8; 47]) -> [Tuner; 4]
+    ensures { λ r. ⌜ r ≡ countedItem (packet (take 47 held)) tuners ⌝ }
 {
     let tuner = held[4] as usize;
     if 3 < tuner {
@@ -78,8 +78,8 @@ fn counted(tuners: [Heard; 4], held: [u8; 47]) -> [Heard; 4]
     out
 }
 
-pub(crate) fn found_more(tuners: [Heard; 4], found: Found, held: [u8; 47]) -> [Heard; 4]
-    ensures { λ r. ⌜ r ≡ afterItems (itemsFound found held) tuners ⌝ }
+pub(crate) fn found_more(tuners: [Tuner; 4], found: Found, held: [u8; 47]) -> [Tuner; 4]
+    ensures { λ r. ⌜ r ≡ countedItems (itemsFound found held) tuners ⌝ }
 {
     match found {
         Found::Nothing => tuners,

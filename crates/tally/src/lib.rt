@@ -9,7 +9,7 @@ ghost use Rattle.tally.specs.Laws.{Laws};
 use items::Split;
 
 // What came from one tuner: packets read clean, packets read with mended bytes, mended bytes in all, packets refused.
-pub struct Heard {
+pub struct Tuner {
     pub clean: u32,
     pub mended: u32,
     pub bytes: u32,
@@ -19,7 +19,7 @@ pub struct Heard {
 // A sheet as far as its packets have been counted: the items as far as they are split, and the four tuners.
 pub struct Tally {
     pub split: Split,
-    pub tuners: [Heard; 4],
+    pub tuners: [Tuner; 4],
 }
 
 // The laws of the counts, as a promise of the crate.

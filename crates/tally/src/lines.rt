@@ -5,8 +5,8 @@ ghost use mathlib.Core.Path.{_≡_};
 ghost use mathlib.Core.List.{_∷_, []};
 ghost use lib.ListN.{length};
 ghost use Rattle.answer.specs.Text.{digit, decimalIn, Stored};
-ghost use Rattle.tally.specs.Aerial.{number, isSilent, aLine, tunerLine, lastLine};
-use crate::Heard;
+ghost use Rattle.tally.specs.Aerial.{column, aLine, tunerLine, lastLine};
+use crate::Tuner;
 
 fn put(out: &mut [u8], at: usize, b: u8) -> usize
     requires { ⌜ at < length (now out) ⌝ }
@@ -22,7 +22,7 @@ fn digit(n: u32) -> u8
     (48 + n % 10) as u8
 }
 
-// The k lowest digits at most, and no 0 in front of them.
+// In decimal with no 0 in front, where k digits hold it; else its k lowest digits.
 fn put_decimal(out: &mut [u8], at: usize, n: u32, k: usize) -> usize
     requires { ⌜ at + k ≤ length (now out) ⌝ }
     ensures { λ r. ⌜ Stored (now (out .entry)) at (decimalIn k n) r (now (out .exit)) ⌝ }
@@ -37,9 +37,9 @@ fn put_decimal(out: &mut [u8], at: usize, n: u32, k: usize) -> usize
     put(out, next, digit(n))
 }
 
-fn put_number(out: &mut [u8], at: usize, n: u32) -> usize
+fn put_column(out: &mut [u8], at: usize, n: u32) -> usize
     requires { ⌜ at + 11 ≤ length (now out) ⌝ }
-    ensures { λ r. ⌜ Stored (now (out .entry)) at (number n) r (now (out .exit)) ⌝ }
+    ensures { λ r. ⌜ Stored (now (out .entry)) at (column n) r (now (out .exit)) ⌝ }
 {
     let next = put(out, at, b' ');
     put_decimal(out, next, n, 10)
@@ -56,20 +56,20 @@ fn open_line(out: &mut [u8], at: usize, tuner: u32) -> usize
 }
 
 // '`A tuner clean mended bytes refused`.'
-fn a_line(out: &mut [u8], at: usize, tuner: u32, h: Heard) -> usize
+fn a_line(out: &mut [u8], at: usize, tuner: u32, h: Tuner) -> usize
     requires { ⌜ at + 48 ≤ length (now out) ⌝ }
     ensures { λ r. ⌜ Stored (now (out .entry)) at (aLine tuner h) r (now (out .exit)) ⌝ }
 {
     let clean = open_line(out, at, tuner);
-    let mended = put_number(out, clean, h.clean);
-    let bytes = put_number(out, mended, h.mended);
-    let refused = put_number(out, bytes, h.bytes);
-    let end = put_number(out, refused, h.refused);
+    let mended = put_column(out, clean, h.clean);
+    let bytes = put_column(out, mended, h.mended);
+    let refused = put_column(out, bytes, h.bytes);
+    let end = put_column(out, refused, h.refused);
     put(out, end, b'\n')
 }
 
 // 'For each of the tuners 0 to 3 that a packet came from.'
-pub(crate) fn tuner_line(out: &mut [u8], at: usize, tuner: u32, h: Heard) -> usize
+pub(crate) fn tuner_line(out: &mut [u8], at: usize, tuner: u32, h: Tuner) -> usize
     requires { ⌜ at + 48 ≤ length (now out) ⌝ }
     ensures { λ r. ⌜ Stored (now (out .entry)) at (tunerLine tuner h) r (now (out .exit)) ⌝ }
 {

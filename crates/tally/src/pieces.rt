@@ -6,8 +6,8 @@ ghost use Rattle.answer.specs.Text.{Stored};
 ghost use Rattle.items.specs.Pieces.{leftOver};
 ghost use Rattle.tally.specs.Aerial.{report};
 ghost use Rattle.tally.specs.Pieces.{silence, blank, afterPiece, longest, reportedBy, outAfter};
-use crate::Heard;
 use crate::Tally;
+use crate::Tuner;
 use crate::counts::found_more;
 use crate::lines::last_line;
 use crate::lines::tuner_line;
@@ -17,7 +17,7 @@ use items::Split;
 const LONGEST: usize = 194;
 
 // 'For each of the tuners 0 to 3 .. in order .. then `Z`.'
-fn put_report(out: &mut [u8], tuners: [Heard; 4], whole: bool) -> usize
+fn put_report(out: &mut [u8], tuners: [Tuner; 4], whole: bool) -> usize
     requires { ⌜ longest ≤ length (now out) ⌝ }
     ensures { λ r. ⌜ Stored (now (out .entry)) 0 (report (λ k. getD tuners k silence) whole) r (now (out .exit)) ⌝ }
 {
@@ -33,7 +33,7 @@ impl Tally {
         ensures { λ r. ⌜ r ≡ blank ⌝ }
     {
         let split = Split::new();
-        let silence = Heard {
+        let silence = Tuner {
             clean: 0,
             mended: 0,
             bytes: 0,

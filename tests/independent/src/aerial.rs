@@ -22,7 +22,7 @@ faults! {
     BytesOfRefused: "the mended bytes of a refused packet are counted",
     LufIsRefused: "a packet of LUF 1 is counted as refused",
     TimeIsAsked: "a packet whose time goes back or past the clock's end is left out",
-    TunerFourTaken: "tuner 4 is taken for tuner 0",
+    TunerFourTaken: "a tuner above 3 is taken for its remainder by 4",
     TunersPastThree: "tuners above 3 have lines too",
     TunersAsOne: "tuners are not told apart",
     SilentIsPrinted: "a tuner that no packet came from has a line",

@@ -13,7 +13,7 @@ use Rattle.answer.specs.Answer.{refused, given}
 use Rattle.answer.proofs.Counts.{bit-le}
 use Rattle.label.specs.Packet.{readerRows, receptionOf, labelIn, mendedAt, mendedIn, format2, valueOf, valueAt}
 use Rattle.label.proofs.Nibbles.{over}
-use Rattle.label.proofs.Mended.{mended-sum, at-most-16}
+use Rattle.label.proofs.Mended.{mended-sum, few-mended}
 use Rattle.label.proofs.Rows.{Passed, testAt, numberAt, refused-at, given-past, that-length, other-length}
 use Rattle.reader.proofs.read.Statement.{statement}
 use Rattle.reader.proofs.read.Tie as tie
@@ -184,7 +184,7 @@ module _ (c : tie.After-mends3) where
       (sent (c .before) .nibbles .ensures .1)
 
   counted-small : sum ≤ 16
-  counted-small = rw counted (at-most-16 (here (c .before)))
+  counted-small = rw counted (few-mended (here (c .before)))
 
 add-first-2 : tie.Need-add-first-2
 add-first-2 c = let s = counted-small c in record { fits = omega arith }

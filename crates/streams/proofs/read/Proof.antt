@@ -1,6 +1,6 @@
 -- `read`'s loop: the measure is the number of tries that are left; the piece keeps its length.
 use borrow.Author.Needs.{needs}
-use mathlib.Core.Path.{_≡_}
+use mathlib.Core.Path.{_≡_, refl}
 use lib.ListN.{length}
 use Rattle.streams.proofs.read.Statement.{statement}
 use Rattle.streams.proofs.read.Tie as tie
@@ -27,7 +27,7 @@ same-length : tie.Need-same-length Inv-loop μ-loop
 same-length c = search needs
 
 returns : tie.Need-returns Inv-loop μ-loop
-returns c = search needs
+returns c = (search needs, refl)
 
 sub-tries : tie.Need-sub-tries Inv-loop μ-loop
 sub-tries c = search needs
@@ -45,7 +45,7 @@ same-length-2 : tie.Need-same-length-2 Inv-loop μ-loop
 same-length-2 c = search needs
 
 returns-2 : tie.Need-returns-2 Inv-loop μ-loop
-returns-2 c = search needs
+returns-2 c = (search needs, refl)
 
 pub read-spec : {M : Type 1} → statement M
 read-spec =

@@ -1,7 +1,7 @@
 -- `take`'s loop: the bytes from here on, taken with what is held now, come to what all come to. The measure is what is left of the
 -- piece.
 use borrow.Author.Needs.{needs}
-use Prim.Native.Nat.{_-_, _≤_}
+use Prim.Native.Nat.{_-_}
 use mathlib.Core.Path.{_≡_, refl, _∙_}
 use native.Mathlib.Omega.{arith}
 use lib.ListN.{length, drop}

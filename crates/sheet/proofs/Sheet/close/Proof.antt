@@ -1,7 +1,8 @@
 -- `close`: the last line where there is room, and else nothing changes.
 use borrow.Author.Needs.{needs}
 use borrow.Author.Tests.{leb-true}
-use mathlib.Core.Path.{refl, sym, _∙_}
+use mathlib.Core.Path.{_≡_, refl, sym, _∙_}
+use Rattle.items.specs.Pieces.{wholeAt}
 use Rattle.sheet.specs.Pieces.{endTold, closedBy, outClosed}
 use Rattle.sheet.proofs.Sheet.close.Statement.{statement}
 use Rattle.sheet.proofs.Sheet.close.Tie as tie
@@ -35,9 +36,10 @@ returns c =
     let whole = live .before in
     let t = whole .before .before .before in
     let s = t .before .before .before in
+    let e : whole .whole .result ≡ wholeAt (s .args .ended) (s .args .self .split) = whole .whole .ensures in
     rw (
       sym (t .before .has-room .ensures) ∙ t .if1 .taken,
-      ← whole .whole .ensures,
+      ← e,
       letter .letter .ensures (s .args .self .desk),
       ← live .live .ensures,
       line .last-line .ensures .0,

@@ -1,6 +1,6 @@
 -- `found_more`: only a packet is counted.
 use borrow.Author.Needs.{needs}
-use Rattle.tally.specs.Pieces.{afterItems}
+use Rattle.tally.specs.Pieces.{countedItems}
 use Rattle.tally.proofs.counts.found_more.Statement.{statement}
 use Rattle.tally.proofs.counts.found_more.Tie as tie
 
@@ -17,15 +17,15 @@ counted-requires : tie.Need-counted-requires
 counted-requires c κs = search needs
 
 returns : tie.Need-returns
-unfolding afterItems
+unfolding countedItems
 returns c = rw (c .enum-told .given .1)
 
 returns-2 : tie.Need-returns-2
-unfolding afterItems
+unfolding countedItems
 returns-2 c = rw (c .enum-told2 .given .1)
 
 returns-3 : tie.Need-returns-3
-unfolding afterItems
+unfolding countedItems
 returns-3 c = rw (c .before .enum-told3 .given .1) (c .counted .ensures)
 
 pub found-more-spec : {M : Type 1} → statement M

@@ -1,10 +1,10 @@
--- `put_number`: a space, and then a number of at most ten digits.
+-- `put_column`: a space, and then a number of at most ten digits.
 use borrow.Author.Needs.{needs}
 use mathlib.Core.List.{[], _∷_}
 use Rattle.answer.specs.Text.{space, decimalIn}
 use Rattle.answer.proofs.Texts.{then}
-use Rattle.tally.proofs.lines.put_number.Statement.{statement}
-use Rattle.tally.proofs.lines.put_number.Tie as tie
+use Rattle.tally.proofs.lines.put_column.Statement.{statement}
+use Rattle.tally.proofs.lines.put_column.Tie as tie
 
 put-requires : tie.Need-put-requires
 put-requires c κs = search needs
@@ -22,5 +22,5 @@ returns c =
     let a = first .before .before .before .args in
     then (a .out .now) (a .at) (space ∷ []) (decimalIn 10 (a .n)) (first .put .ensures) (last .put-decimal .ensures)
 
-pub put-number-spec : {M : Type 1} → statement M
-put-number-spec = tie.close (tie.spec put-requires put-decimal-requires same-length returns)
+pub put-column-spec : {M : Type 1} → statement M
+put-column-spec = tie.close (tie.spec put-requires put-decimal-requires same-length returns)
