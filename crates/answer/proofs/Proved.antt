@@ -2,6 +2,7 @@
 use mathlib.Core.List.{[], _∷_}
 use Rattle.answer.specs.Bytes.{numberOf}
 use Rattle.answer.specs.Laws.{Laws}
+use Rattle.answer.specs.Text.{digit}
 use Rattle.answer.proofs.Answers.{equation}
 
 pub laws : Laws
@@ -9,4 +10,5 @@ laws = record {
   pair-unique = λ a b. equation (numberOf (a ∷ b ∷ []));
   triple-unique = λ a b c. equation (numberOf (a ∷ b ∷ c ∷ []));
   four-unique = λ a b c d. equation (numberOf (a ∷ b ∷ c ∷ d ∷ []));
+  digit-unique = λ n. equation (digit n);
 }

@@ -76,16 +76,18 @@ module _ (b : ℕ) where
   abbrev byTests : Bool → Bool → Nibble
   byTests s t = cond s (Clean (nearest b)) (cond t (Mended (nearest b)) Damaged)
 
+  at-nearest : (v d : ℕ) → nearest b ≡ v → eqb (away b) d ≡ true → Found b d v
+  at-nearest v d w h =
+      let n = nearest-at b in
+      let z = eqb-true (away b) d h in
+      (rw w at (n .0), ap (λ (x : ℕ). distance b (good x)) (sym w) ∙ n .1 ∙ z)
+
   pub only-clean : (v : ℕ) → nibbleOf b ≡ Clean v → (v < 16) × (distance b (good v) ≡ 0)
   unfolding nibbleOf
   only-clean v e = go (eqb (away b) 0) (eqb (away b) 1) refl e
     where
       go : (s t : Bool) → eqb (away b) 0 ≡ s → byTests s t ≡ Clean v → (v < 16) × (distance b (good v) ≡ 0)
-      go true t h q =
-          let w : nearest b ≡ v = cc in
-          let n = nearest-at b in
-          let z = eqb-true (away b) 0 h in
-          (rw w at (n .0), ap (λ (x : ℕ). distance b (good x)) (sym w) ∙ n .1 ∙ z)
+      go true t h q = let w : nearest b ≡ v = cc in at-nearest v 0 w h
       go false true h q = absurd (let z : _≡_ {A = ℕ} 0 1 = cc in omega arith)
       go false false h q = absurd (let z : _≡_ {A = ℕ} 0 1 = cc in omega arith)
 
@@ -94,11 +96,7 @@ module _ (b : ℕ) where
   only-mended v e = go (eqb (away b) 0) (eqb (away b) 1) refl e
     where
       go : (s t : Bool) → eqb (away b) 1 ≡ t → byTests s t ≡ Mended v → (v < 16) × (distance b (good v) ≡ 1)
-      go false true h q =
-          let w : nearest b ≡ v = cc in
-          let n = nearest-at b in
-          let z = eqb-true (away b) 1 h in
-          (rw w at (n .0), ap (λ (x : ℕ). distance b (good x)) (sym w) ∙ n .1 ∙ z)
+      go false true h q = let w : nearest b ≡ v = cc in at-nearest v 1 w h
       go true t h q = absurd (let z : _≡_ {A = ℕ} 0 1 = cc in omega arith)
       go false false h q = absurd (let z : _≡_ {A = ℕ} 0 1 = cc in omega arith)
 

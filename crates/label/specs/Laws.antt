@@ -35,7 +35,7 @@ Wrong n g b = (b < 256) × (distance b g ≡ n)
 
 -- b is the byte g with two wrong bits
 abbrev pub TwoWrong : ℕ → ℕ → Type 0
-TwoWrong g b = (b < 256) × (distance b g ≡ 2)
+TwoWrong g b = Wrong 2 g b
 
 -- the number of the refusal for a damaged byte
 abbrev pub damageNumber : ℕ → ℕ

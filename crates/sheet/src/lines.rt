@@ -4,9 +4,10 @@ ghost use mathlib.Core.Path.{_≡_};
 ghost use mathlib.Core.List.{_∷_, [], _++_};
 ghost use lib.ListN.{length};
 ghost use Rattle.reply.specs.Numbers.{addAnswer};
-ghost use Rattle.answer.specs.Text.{space, lineFeed, digit, Stored};
+ghost use Rattle.answer.specs.Text.{space, lineFeed, Stored};
 ghost use Rattle.sheet.specs.Sheet.{decimal, timerLine, packetLine};
 ghost use Rattle.sheet.specs.Pieces.{longest};
+use answer::digit;
 use reply::AddAnswer;
 
 fn put(out: &mut [u8], at: usize, b: u8) -> usize
@@ -15,12 +16,6 @@ fn put(out: &mut [u8], at: usize, b: u8) -> usize
 {
     out[at] = b;
     at + 1
-}
-
-fn digit(n: usize) -> u8
-    ensures { λ r. ⌜ r ≡ digit n ⌝ }
-{
-    (48 + n % 10) as u8
 }
 
 fn put_decimal(out: &mut [u8], at: usize, n: usize) -> usize

@@ -4,9 +4,10 @@ ghost use mathlib.Core.Bool.{cond};
 ghost use mathlib.Core.Path.{_≡_};
 ghost use mathlib.Core.List.{_∷_, []};
 ghost use lib.ListN.{length};
-ghost use Rattle.answer.specs.Text.{digit, decimalIn, Stored};
+ghost use Rattle.answer.specs.Text.{space, digit, decimalIn, Stored};
 ghost use Rattle.tally.specs.Aerial.{column, aLine, tunerLine, lastLine};
 use crate::Tuner;
+use answer::digit;
 
 fn put(out: &mut [u8], at: usize, b: u8) -> usize
     requires { ⌜ at < length (now out) ⌝ }
@@ -14,12 +15,6 @@ fn put(out: &mut [u8], at: usize, b: u8) -> usize
 {
     out[at] = b;
     at + 1
-}
-
-fn digit(n: u32) -> u8
-    ensures { λ r. ⌜ r ≡ digit n ⌝ }
-{
-    (48 + n % 10) as u8
 }
 
 // In decimal with no 0 in front, where k digits hold it; else its k lowest digits.
@@ -31,10 +26,10 @@ fn put_decimal(out: &mut [u8], at: usize, n: u32, k: usize) -> usize
         return at;
     }
     if n < 10 {
-        return put(out, at, digit(n));
+        return put(out, at, digit(n as usize));
     }
     let next = put_decimal(out, at, n / 10, k - 1);
-    put(out, next, digit(n))
+    put(out, next, digit(n as usize))
 }
 
 fn put_column(out: &mut [u8], at: usize, n: u32) -> usize
@@ -48,11 +43,11 @@ fn put_column(out: &mut [u8], at: usize, n: u32) -> usize
 // A line's letter and its tuner.
 fn open_line(out: &mut [u8], at: usize, tuner: u32) -> usize
     requires { ⌜ at + 3 ≤ length (now out) ⌝ }
-    ensures { λ r. ⌜ Stored (now (out .entry)) at (65 ∷ 32 ∷ digit tuner ∷ []) r (now (out .exit)) ⌝ }
+    ensures { λ r. ⌜ Stored (now (out .entry)) at (65 ∷ space ∷ digit tuner ∷ []) r (now (out .exit)) ⌝ }
 {
     let gap = put(out, at, b'A');
     let next = put(out, gap, b' ');
-    put(out, next, digit(tuner))
+    put(out, next, digit(tuner as usize))
 }
 
 // '`A tuner clean mended bytes refused`.'

@@ -12,7 +12,7 @@ use Rattle.answer.proofs.Texts.{then, decimal-short, no-digit, last-digit, more
 use Rattle.tally.proofs.lines.put_decimal.Reads as put-decimal
 use Rattle.tally.proofs.lines.put_decimal.Kinds as put-decimal-kinds
 use Rattle.tally.proofs.lines.+put_decimal.Lts-put_decimal as put-decimal-lts
-use Rattle.tally.proofs.lines.digit.Reads as digit-reads
+use Rattle.answer.proofs.digit.Reads as digit-reads
 use Rattle.tally.proofs.lines.put.Reads as put-reads
 use Rattle.tally.proofs.lines.+put_decimal.{statement}
 use Rattle.tally.proofs.lines.+put_decimal.Tie.{close}
