@@ -1,7 +1,7 @@
 -- Texts stored one after the other are their concatenation stored at once; how long a number is as text.
 use Prim.Native.Nat.{ℕ, zero, suc, _+_, _-_, _/_, _≤_, _<_}
 use mathlib.Core.Bool.{Bool, true, false, cond}
-use mathlib.Core.Path.{_≡_, sym, _∙_}
+use mathlib.Core.Path.{_≡_, refl, sym, _∙_}
 use mathlib.Core.List.{List, [], _∷_, _++_}
 use native.Mathlib.Nat.{add-zero, add-suc, suc-add}
 use native.Mathlib.Omega.{arith}
@@ -34,6 +34,14 @@ decimal-short (suc k) n = go (ltb n 10) (decimal-short k (n / 10))
 pub no-digit : (k n : ℕ) → k ≡ 0 → decimalIn k n ≡ []
 unfolding decimalIn
 no-digit k n e = rw e
+
+pub one-digit : (n : ℕ) → decimalIn 1 n ≡ digit n ∷ []
+unfolding decimalIn
+one-digit n = go (ltb n 10)
+  where
+    go : (t : Bool) → cond t (digit n ∷ []) (digit n ∷ []) ≡ digit n ∷ []
+    go true = refl
+    go false = refl
 
 pub last-digit : (k n : ℕ) → 0 < k → n < 10 → decimalIn k n ≡ digit n ∷ []
 unfolding decimalIn

@@ -1,15 +1,15 @@
 -- How long what is printed is: no byte prints more than `longest`, so a piece that finds room is taken and stays within its share.
 use Prim.Native.Nat.{ℕ, _+_, _-_, _*_, _/_, _≤_, _<_}
-use mathlib.Core.Path.{_≡_, refl, sym}
+use mathlib.Core.Path.{_≡_, refl, sym, ap, _∙_}
 use mathlib.Core.Bool.{Bool, true, false, cond}
 use mathlib.Core.List.{List, [], _∷_, _++_, append-nil}
-use borrow.Author.Tests.{le-leb, lt-leb, leb-true, leb-false, lt-ltb, le-ltb}
+use borrow.Author.Tests.{le-leb, lt-leb, leb-true, leb-false}
 use native.Mathlib.Omega.{arith}
-use lib.Dec.{ltb, leb}
+use lib.Dec.{leb}
 use lib.ListN.{length, take, length-append}
 use Rattle.answer.specs.Answer.{Answer, refused, given, number}
-use Rattle.answer.specs.Text.{space, lineFeed, digit, decimalIn}
-use Rattle.answer.proofs.Texts.{decimal-short}
+use Rattle.answer.specs.Text.{space, lineFeed, digit}
+use Rattle.answer.proofs.Texts.{decimal-short, one-digit, last-digit, more-digits}
 use Rattle.desk.specs.declared.Desk.{Desk}
 use Rattle.desk.specs.Calls.{addOf}
 use Rattle.desk.specs.Moments.{liveCount}
@@ -30,16 +30,12 @@ unfolding decimal
 two-digits n = decimal-short 2 n
 
 pub below-ten : (n : ℕ) → n < 10 → decimal n ≡ digit n ∷ []
-unfolding decimal decimalIn
-below-ten n h = rw (lt-ltb n 10 h)
+unfolding decimal
+below-ten n h = last-digit 2 n (omega arith) h
 
 pub from-ten : (n : ℕ) → 10 ≤ n → decimal n ≡ digit (n / 10) ∷ digit n ∷ []
-unfolding decimal decimalIn
-from-ten n h = rw (le-ltb n 10 h) (go (ltb (n / 10) 10))
-  where
-    go : (t : Bool) → cond t (digit (n / 10) ∷ []) (digit (n / 10) ∷ []) ++ (digit n ∷ []) ≡ digit (n / 10) ∷ digit n ∷ []
-    go true = refl
-    go false = refl
+unfolding decimal
+from-ten n h = more-digits 2 n (omega arith) h ∙ ap (λ (x : List ℕ). x ++ (digit n ∷ [])) (one-digit (n / 10))
 
 -- a number and the line's end
 last-short : (n : ℕ) → length (decimal n ++ (lineFeed ∷ [])) ≤ 3

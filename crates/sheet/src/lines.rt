@@ -1,6 +1,5 @@
 // The lines that a sheet prints. Each writer stores its text from place at on, and answers the place after it.
 ghost use Prim.Native.Nat.{_+_, _<_, _≤_};
-ghost use mathlib.Core.Path.{_≡_};
 ghost use mathlib.Core.List.{_∷_, [], _++_};
 ghost use lib.ListN.{length};
 ghost use Rattle.reply.specs.Numbers.{addAnswer};

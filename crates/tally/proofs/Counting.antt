@@ -12,6 +12,7 @@ use lib.Seq.{take-all, getD-set-same, getD-set-other}
 use Rattle.answer.specs.Answer.{Answer, refused, given}
 use Rattle.answer.specs.Lists.{count}
 use Rattle.answer.proofs.Cases.{by-test}
+use Rattle.answer.proofs.Counts.{bit-le}
 use Rattle.answer.proofs.Every.{first-holds}
 use Rattle.label.specs.declared.Received.{Received}
 use Rattle.label.specs.Packet.{readerRows, labelIn, mendedIn, receptionOf}
@@ -94,27 +95,12 @@ fewer m n h l r = record {
 }
 
 room-less : (n : ℕ) (a : Answer Received) (h : Tuner) → mendedBytes a ≤ 16 → Room (1 + n) h → Room n (plus h (one a))
-room-less n (refused m) h l r = record {
-  clean = omega (arith, r .clean);
-  mended = omega (arith, r .mended);
+room-less n a h l r = record {
+  clean = omega (arith, r .clean, bit-le (isClean a));
+  mended = omega (arith, r .mended, bit-le (isMended a));
   bytes = omega (arith, r .bytes);
-  refused = omega (arith, r .refused);
+  refused = omega (arith, r .refused, bit-le (isRefused a));
 }
-room-less n (given x) h l r = go (eqb (x .mended) 0)
-  where
-    go : (t : Bool) → Room n (plus h (record { clean = cond t 1 0; mended = cond (not t) 1 0; bytes = x .mended; refused = 0 }))
-    go true = record {
-      clean = omega (arith, r .clean);
-      mended = omega (arith, r .mended);
-      bytes = omega (arith, r .bytes);
-      refused = omega (arith, r .refused);
-    }
-    go false = record {
-      clean = omega (arith, r .clean);
-      mended = omega (arith, r .mended);
-      bytes = omega (arith, r .bytes);
-      refused = omega (arith, r .refused);
-    }
 
 -- of some answers of the reader
 abbrev heardBy : List (Answer Received) → Tuner
