@@ -10,13 +10,15 @@ use lib.Dec.{leb}
 use lib.ListN.{getD, List·getD-map}
 use Rattle.answer.proofs.Cases.{both-true, both-false}
 use Rattle.answer.specs.Lists.{some}
-use Rattle.rule.specs.Rule.{noLabel, standFor, stands, endedAt, matches, nowhere, lowestFrom, sightOf, held, nextCopy, nextTimer, isLive, liveTimer}
-use Rattle.rule.specs.declared.Stamped.{Stamped}
-use Rattle.rule.specs.declared.Booking.{Booking}
+use Rattle.places.specs.Places.{noLabel, standFor, stands, nowhere, lowestFrom}
+use Rattle.matching.specs.Matching.{endedAt, matches, sightOf}
+use Rattle.rule.specs.Rule.{held, nextCopy, nextTimer, isLive, liveTimer}
+use Rattle.places.specs.declared.Stamped.{Stamped}
+use Rattle.matching.specs.declared.Booking.{Booking}
 use Rattle.rule.specs.declared.Copy.{Copy}
 use Rattle.rule.specs.declared.Copy.the-variants.{Free, Waiting, Prepared, Recording, RunningOn}
 use Rattle.rule.specs.declared.Timer.{Timer}
-use Rattle.rule.specs.declared.Sight.the-variants.{Nothing}
+use Rattle.matching.specs.declared.Sight.the-variants.{Nothing}
 use Rattle.sixteen.specs.Sixteen.{noTimer}
 use Rattle.desk.specs.Moments.{moment, clockedAt, nextSecond, walk, quiet, walkedIn}
 use Rattle.desk.specs.Calls.{timerAt}

@@ -4,7 +4,7 @@ use mathlib.Core.Path.{_≡_, refl, sym, _∙_}
 use mathlib.Core.List.{List}
 use Rattle.answer.specs.Answer.{Unique, number, after}
 use Rattle.answer.proofs.Answers.{numbered}
-use Rattle.rule.specs.declared.Booking.{Booking}
+use Rattle.matching.specs.declared.Booking.{Booking}
 use Rattle.desk.specs.Calls.{packetOf, waitOf, secondOf, addOf, cancelOf, askOf}
 use Rattle.reply.specs.Numbers.{packetNumber, waitAnswer, addAnswer, cancelNumber, askAnswer, secondNumber}
 use Rattle.desk.specs.Numbers.{saidBy, leftBy}

@@ -8,15 +8,17 @@ use borrow.Author.Tests.{lt-ltb, le-ltb, not-true}
 use lib.Dec.{ltb}
 use lib.ListN.{getD}
 use Rattle.answer.proofs.Cases.{both-true}
-use Rattle.rule.specs.Rule.{noLabel, endedAt, matches, Found, nowhere, at, lowestFrom, lowest, sightOf, recordingAt, notLive, prepareFor, fromPrepared, movesOr, fromRecording, runFor, fromRunningOn, goesOn, held, nextCopy, nextTimer}
-use Rattle.rule.specs.declared.Stamped.{Stamped}
-use Rattle.rule.specs.declared.Booking.{Booking}
+use Rattle.places.specs.Places.{noLabel, Found, nowhere, at, lowestFrom, lowest}
+use Rattle.matching.specs.Matching.{endedAt, matches, sightOf}
+use Rattle.rule.specs.Rule.{recordingAt, notLive, prepareFor, fromPrepared, movesOr, fromRecording, runFor, fromRunningOn, goesOn, held, nextCopy, nextTimer}
+use Rattle.places.specs.declared.Stamped.{Stamped}
+use Rattle.matching.specs.declared.Booking.{Booking}
 use Rattle.rule.specs.declared.Copy.{Copy}
 use Rattle.rule.specs.declared.Copy.the-variants.{Free, Waiting, Prepared, Recording, RunningOn}
 use Rattle.rule.specs.declared.Timer.{Timer}
-use Rattle.rule.specs.declared.Sight.{Sight}
-use Rattle.rule.specs.declared.Sight.the-variants.{Nothing, Prepare, Start}
-use Rattle.rule.proofs.Sights.{seen-is}
+use Rattle.matching.specs.declared.Sight.{Sight}
+use Rattle.matching.specs.declared.Sight.the-variants.{Nothing, Prepare, Start}
+use Rattle.matching.proofs.Sights.{seen-is}
 use Rattle.rule.proofs.Steps.{free-copy}
 use Rattle.desk.specs.Moments.{moment, clockedAt, nextSecond, walk}
 use Rattle.desk.specs.declared.Desk.{Desk}

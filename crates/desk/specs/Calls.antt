@@ -10,8 +10,10 @@ use Rattle.label.specs.Packet.{readingOf}
 use Rattle.calendar.specs.Calendar.{windowIn, clockEnd}
 use Rattle.calendar.specs.declared.Window.{Window}
 use Rattle.answer.specs.Lists.{some}
-use Rattle.rule.specs.Rule.{noLabel, heardAt, endedAt, held, Found, flag}
-use Rattle.rule.specs.declared.Booking.{Booking}
+use Rattle.places.specs.Places.{noLabel, heardAt, Found, flag}
+use Rattle.matching.specs.Matching.{endedAt}
+use Rattle.rule.specs.Rule.{held}
+use Rattle.matching.specs.declared.Booking.{Booking}
 use Rattle.rule.specs.declared.Timer.{Timer}
 use Rattle.rule.specs.declared.Copy.{Copy}
 use Rattle.rule.specs.declared.Copy.the-variants.{Free, Waiting, Prepared, Recording, RunningOn}

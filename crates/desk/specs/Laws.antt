@@ -3,7 +3,7 @@ use Prim.Native.Nat.{ℕ}
 use mathlib.Core.Path.{_≡_}
 use mathlib.Core.List.{List}
 use Rattle.answer.specs.Answer.{Unique, number, after}
-use Rattle.rule.specs.declared.Booking.{Booking}
+use Rattle.matching.specs.declared.Booking.{Booking}
 use Rattle.desk.specs.Moments.{fresh, moment, liveCount}
 use Rattle.desk.specs.Calls.{packetOf, waitOf, secondOf, addOf, cancelOf, askOf}
 use Rattle.reply.specs.Numbers.{packetNumber, waitAnswer, addAnswer, cancelNumber, askAnswer, secondNumber}

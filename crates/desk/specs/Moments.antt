@@ -4,7 +4,8 @@ use mathlib.Core.Bool.{Bool, cond, not, _&&_}
 use mathlib.Core.List.{map}
 use lib.ListN.{replicate}
 use Rattle.answer.specs.Lists.{some, count}
-use Rattle.rule.specs.Rule.{noLabel, stands, nextTimer, liveTimer}
+use Rattle.places.specs.Places.{noLabel, stands}
+use Rattle.rule.specs.Rule.{nextTimer, liveTimer}
 use Rattle.sixteen.specs.Sixteen.{noTimer}
 use Rattle.desk.specs.declared.Desk.{Desk}
 

@@ -4,11 +4,11 @@ ghost use Rattle.desk.specs.Moments.{liveCount};
 ghost use Rattle.desk.specs.Calls.{copySays, askOf};
 ghost use Rattle.reply.specs.Numbers.{stateSays, askAnswer};
 use crate::Desk;
+use matching::windows::ended_at;
 use reply::AskAnswer;
 use reply::State;
 use rule::Copy;
 use rule::copies::is_held;
-use rule::matching::ended_at;
 use sixteen::slots::count_live;
 use sixteen::slots::timer_at;
 

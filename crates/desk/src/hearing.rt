@@ -8,11 +8,11 @@ use crate::Heard;
 use crate::moments::CLOCK_END;
 use label::Label;
 use label::Reading;
+use places::label_at;
+use places::put_label;
+use places::standing::heard_at;
 use reply::PacketAnswer;
 use reply::PacketRefusal;
-use rule::places::label_at;
-use rule::places::put_label;
-use rule::standing::heard_at;
 
 impl Desk {
     // 'Sixteen places, a tuner 0 to 3 with an LCI 0 to 3, ordered by tuner, then LCI.'

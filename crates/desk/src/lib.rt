@@ -4,12 +4,12 @@ mod hearing; // packets and labels
 mod moments; // seconds, waits, and the moment that every accepted call ends in
 mod timers; // adding and cancelling
 
+use places::Stamped;
 use reply::AddAnswer;
 use reply::CancelAnswer;
 use reply::PacketAnswer;
 use reply::SecondAnswer;
 use reply::WaitAnswer;
-use rule::Stamped;
 use rule::Timer;
 ghost use mathlib.Core.Bool.{true};
 ghost use mathlib.Core.Path.{_≡_};

@@ -15,9 +15,11 @@ use Rattle.calendar.specs.declared.Window.{Window}
 use Rattle.calendar.specs.Calendar.{windowIn, clockEnd}
 use Rattle.answer.proofs.Cases.{both-true}
 use Rattle.answer.specs.Lists.{some}
-use Rattle.rule.specs.Rule.{noLabel, stands, stamped, renewed, isContinuation, heardAt, openAt, endedAt, held, nextCopy, nextTimer, isLive}
-use Rattle.rule.specs.declared.Stamped.{Stamped}
-use Rattle.rule.specs.declared.Booking.{Booking}
+use Rattle.places.specs.Places.{noLabel, stands, stamped, renewed, isContinuation, heardAt}
+use Rattle.matching.specs.Matching.{openAt, endedAt}
+use Rattle.rule.specs.Rule.{held, nextCopy, nextTimer, isLive}
+use Rattle.places.specs.declared.Stamped.{Stamped}
+use Rattle.matching.specs.declared.Booking.{Booking}
 use Rattle.rule.specs.declared.Copy.the-variants.{Waiting}
 use Rattle.rule.specs.declared.Timer.{Timer}
 use Rattle.desk.specs.declared.Desk.{Desk}

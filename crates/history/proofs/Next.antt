@@ -7,13 +7,15 @@ use native.Mathlib.Omega.{arith}
 use borrow.Author.Tests.{ltb-true, ltb-false}
 use lib.Dec.{ltb}
 use lib.ListN.{getD}
-use Rattle.rule.specs.Rule.{noLabel, openAt, endedAt, matches, sightOf, recordingAt, notLive, prepareFor, fromPrepared, movesOr, fromRecording, runFor, fromRunningOn, goesOn, held, nextCopy, isLive}
-use Rattle.rule.specs.declared.Stamped.{Stamped}
-use Rattle.rule.specs.declared.Booking.{Booking}
+use Rattle.places.specs.Places.{noLabel}
+use Rattle.matching.specs.Matching.{openAt, endedAt, matches, sightOf}
+use Rattle.rule.specs.Rule.{recordingAt, notLive, prepareFor, fromPrepared, movesOr, fromRecording, runFor, fromRunningOn, goesOn, held, nextCopy, isLive}
+use Rattle.places.specs.declared.Stamped.{Stamped}
+use Rattle.matching.specs.declared.Booking.{Booking}
 use Rattle.rule.specs.declared.Copy.{Copy}
 use Rattle.rule.specs.declared.Copy.the-variants.{Free, Waiting, Prepared, Recording, RunningOn}
-use Rattle.rule.specs.declared.Sight.{Sight}
-use Rattle.rule.specs.declared.Sight.the-variants.{Nothing, Prepare, Start}
+use Rattle.matching.specs.declared.Sight.{Sight}
+use Rattle.matching.specs.declared.Sight.the-variants.{Nothing, Prepare, Start}
 use Rattle.rule.proofs.Steps.{not-held, free-copy}
 use Rattle.desk.proofs.Settle.{start-matches, prepare-matches, nextCopy-open, nextCopy-ended}
 use Rattle.history.specs.Prepared.{preparedSince}

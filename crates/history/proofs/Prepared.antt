@@ -6,13 +6,14 @@ use mathlib.Core.List.{List, [], _∷_, _++_}
 use mathlib.Core.Logic.{inl, inr}
 use native.Mathlib.Omega.{arith}
 use borrow.Author.Tests.{lt-ltb, le-ltb}
-use Rattle.rule.specs.Rule.{endedAt, recordingAt, prepareFor, fromPrepared, held, nextCopy, nextTimer}
-use Rattle.rule.specs.declared.Stamped.{Stamped}
-use Rattle.rule.specs.declared.Booking.{Booking}
+use Rattle.matching.specs.Matching.{endedAt}
+use Rattle.rule.specs.Rule.{recordingAt, prepareFor, fromPrepared, held, nextCopy, nextTimer}
+use Rattle.places.specs.declared.Stamped.{Stamped}
+use Rattle.matching.specs.declared.Booking.{Booking}
 use Rattle.rule.specs.declared.Copy.{Copy}
 use Rattle.rule.specs.declared.Copy.the-variants.{Free, Waiting, Prepared, Recording, RunningOn}
 use Rattle.rule.specs.declared.Timer.{Timer}
-use Rattle.rule.specs.declared.Sight.the-variants.{Prepare}
+use Rattle.matching.specs.declared.Sight.the-variants.{Prepare}
 use Rattle.rule.proofs.Steps.{next-prepared, recording-stays}
 use Rattle.sixteen.specs.Sixteen.{noTimer, active}
 use Rattle.desk.specs.declared.Desk.{Desk}

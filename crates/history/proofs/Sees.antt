@@ -6,12 +6,13 @@ use mathlib.Core.List.{List, [], _∷_}
 use native.Mathlib.Omega.{arith}
 use lib.ListN.{getD}
 use Rattle.answer.proofs.Cases.{by-test}
-use Rattle.rule.specs.Rule.{noLabel, stands, matches, nowhere, at, lowestFrom, sightOf}
-use Rattle.rule.specs.declared.Stamped.{Stamped}
-use Rattle.rule.specs.declared.Booking.{Booking}
-use Rattle.rule.specs.declared.Sight.{Sight}
-use Rattle.rule.specs.declared.Sight.the-variants.{Nothing, Prepare, Start}
-use Rattle.rule.proofs.Sights.{seen-is}
+use Rattle.places.specs.Places.{noLabel, stands, nowhere, at, lowestFrom}
+use Rattle.matching.specs.Matching.{matches, sightOf}
+use Rattle.places.specs.declared.Stamped.{Stamped}
+use Rattle.matching.specs.declared.Booking.{Booking}
+use Rattle.matching.specs.declared.Sight.{Sight}
+use Rattle.matching.specs.declared.Sight.the-variants.{Nothing, Prepare, Start}
+use Rattle.matching.proofs.Sights.{seen-is}
 use Rattle.desk.proofs.Settle.{start-matches, prepare-matches}
 use Rattle.desk.proofs.Jump.{None}
 use Rattle.history.specs.Prepared.{OnlyPrf1, LowestMatch}

@@ -6,9 +6,11 @@ use mathlib.Core.List.{List}
 use native.Mathlib.Omega.{arith}
 use borrow.Author.Tests.{lt-leb}
 use lib.ListN.{getD}
-use Rattle.rule.specs.Rule.{noLabel, standFor, stands, matches, runFor, isLive}
-use Rattle.rule.specs.declared.Stamped.{Stamped}
-use Rattle.rule.specs.declared.Booking.{Booking}
+use Rattle.places.specs.Places.{noLabel, standFor, stands}
+use Rattle.matching.specs.Matching.{matches}
+use Rattle.rule.specs.Rule.{runFor, isLive}
+use Rattle.places.specs.declared.Stamped.{Stamped}
+use Rattle.matching.specs.declared.Booking.{Booking}
 use Rattle.rule.specs.declared.Copy.{Copy}
 use Rattle.rule.specs.declared.Copy.the-variants.{Free, Waiting, Prepared, Recording, RunningOn}
 use Rattle.desk.specs.declared.Desk.{Desk}

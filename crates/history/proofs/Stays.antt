@@ -9,9 +9,11 @@ use borrow.Author.Tests.{leb-true, le-leb, lt-ltb, eq-eqb}
 use lib.Dec.{leb, eqb}
 use lib.ListN.{getD}
 use Rattle.answer.proofs.Cases.{both-true}
-use Rattle.rule.specs.Rule.{noLabel, standFor, stands, openAt, matches, at, recordingAt, prepareFor, fromRecording, nextCopy, nextTimer}
-use Rattle.rule.specs.declared.Stamped.{Stamped}
-use Rattle.rule.specs.declared.Booking.{Booking}
+use Rattle.places.specs.Places.{noLabel, standFor, stands, at}
+use Rattle.matching.specs.Matching.{openAt, matches}
+use Rattle.rule.specs.Rule.{recordingAt, prepareFor, fromRecording, nextCopy, nextTimer}
+use Rattle.places.specs.declared.Stamped.{Stamped}
+use Rattle.matching.specs.declared.Booking.{Booking}
 use Rattle.rule.specs.declared.Copy.{Copy}
 use Rattle.rule.specs.declared.Copy.the-variants.{Recording}
 use Rattle.rule.specs.declared.Timer.{Timer}

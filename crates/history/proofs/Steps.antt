@@ -12,8 +12,8 @@ use Rattle.label.specs.Packet.{readingOf}
 use Rattle.calendar.specs.declared.Window.{Window}
 use Rattle.calendar.specs.Calendar.{windowIn, clockEnd}
 use Rattle.answer.specs.Lists.{some}
-use Rattle.rule.specs.Rule.{Found, nowhere, at}
-use Rattle.rule.specs.declared.Booking.{Booking}
+use Rattle.places.specs.Places.{Found, nowhere, at}
+use Rattle.matching.specs.declared.Booking.{Booking}
 use Rattle.rule.specs.declared.Copy.the-variants.{Waiting}
 use Rattle.rule.specs.declared.Timer.{Timer}
 use Rattle.desk.specs.declared.Desk.{Desk}

@@ -11,9 +11,10 @@ use Rattle.calendar.specs.Calendar.{windowIn}
 use Rattle.calendar.specs.Laws.{InWindow}
 use Rattle.answer.proofs.Cases.{both-true}
 use Rattle.calendar.proofs.Windows.{windowIn-given}
-use Rattle.rule.specs.Rule.{stands, openIn, openAt, closedIn, endedAt, matches}
-use Rattle.rule.specs.declared.Stamped.{Stamped}
-use Rattle.rule.specs.declared.Booking.{Booking}
+use Rattle.places.specs.Places.{stands}
+use Rattle.matching.specs.Matching.{openIn, openAt, closedIn, endedAt, matches}
+use Rattle.places.specs.declared.Stamped.{Stamped}
+use Rattle.matching.specs.declared.Booking.{Booking}
 
 -- a window that is open has not ended, and is open until it has
 openIn-closedIn : (s : ℕ) (w : Answer Window) → openIn s w ≡ true → closedIn s w ≡ false

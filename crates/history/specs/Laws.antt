@@ -10,9 +10,11 @@ use Rattle.answer.specs.Answer.{Answer, refused, given}
 use Rattle.answer.specs.Lists.{count}
 use Rattle.calendar.specs.Calendar.{clockEnd, windowIn}
 use Rattle.calendar.specs.declared.Window.{Window}
-use Rattle.rule.specs.Rule.{noLabel, openAt, matches, recordingAt, nextCopy, held, isLive, liveTimer}
-use Rattle.rule.specs.declared.Stamped.{Stamped}
-use Rattle.rule.specs.declared.Booking.{Booking}
+use Rattle.places.specs.Places.{noLabel}
+use Rattle.matching.specs.Matching.{openAt, matches}
+use Rattle.rule.specs.Rule.{recordingAt, nextCopy, held, isLive, liveTimer}
+use Rattle.places.specs.declared.Stamped.{Stamped}
+use Rattle.matching.specs.declared.Booking.{Booking}
 use Rattle.rule.specs.declared.Copy.{Copy}
 use Rattle.rule.specs.declared.Copy.the-variants.{Free, Waiting, Prepared, Recording, RunningOn}
 use Rattle.rule.specs.declared.Timer.{Timer}

@@ -2,7 +2,7 @@
 use Prim.Native.Nat.{ℕ}
 use mathlib.Core.List.{List, [], _∷_}
 use Rattle.answer.specs.Answer.{Answer, refused, given}
-use Rattle.rule.specs.declared.Booking.{Booking}
+use Rattle.matching.specs.declared.Booking.{Booking}
 use Rattle.desk.specs.declared.Desk.{Desk}
 use Rattle.desk.specs.Moments.{fresh, liveCount}
 use Rattle.reply.specs.Numbers.{Says}

@@ -5,13 +5,14 @@ use mathlib.Core.Bool.{false}
 use mathlib.Core.List.{List, [], _∷_}
 use native.Mathlib.Omega.{arith}
 use borrow.Author.Tests.{le-ltb}
-use Rattle.rule.specs.Rule.{endedAt, sightOf, notLive, prepareFor, movesOr, fromRecording, runFor, fromRunningOn, nextCopy, isLive}
-use Rattle.rule.specs.declared.Stamped.{Stamped}
-use Rattle.rule.specs.declared.Booking.{Booking}
+use Rattle.matching.specs.Matching.{endedAt, sightOf}
+use Rattle.rule.specs.Rule.{notLive, prepareFor, movesOr, fromRecording, runFor, fromRunningOn, nextCopy, isLive}
+use Rattle.places.specs.declared.Stamped.{Stamped}
+use Rattle.matching.specs.declared.Booking.{Booking}
 use Rattle.rule.specs.declared.Copy.{Copy}
 use Rattle.rule.specs.declared.Copy.the-variants.{Prepared}
-use Rattle.rule.specs.declared.Sight.{Sight}
-use Rattle.rule.specs.declared.Sight.the-variants.{Nothing, Prepare, Start}
+use Rattle.matching.specs.declared.Sight.{Sight}
+use Rattle.matching.specs.declared.Sight.the-variants.{Nothing, Prepare, Start}
 use Rattle.rule.proofs.Steps.{next-waiting, next-prepared}
 use Rattle.desk.specs.declared.Desk.{Desk}
 use Rattle.desk.specs.Moments.{walk}

@@ -4,7 +4,9 @@ use Rattle.hamming.specs.Byte.{D, good, distance, away, nearest, nibbleOf}
 use Rattle.calendar.specs.Calendar.{leap, daysIn, dayExists, realIn, sumBelow, daysBeforeMonth, daysOfYear, daysBeforeYear, dayNumber, opening, closing, opensAt, closesAt, windowIn}
 use Rattle.label.specs.Packet.{readingOf, byteFor, writingOf}
 use Rattle.label.specs.Pil.{serviceOf}
-use Rattle.rule.specs.Rule.{stands, heardAt, openAt, endedAt, matches, sightOf, recordingAt, fromRecording, fromRunningOn, nextCopy, nextTimer}
+use Rattle.places.specs.Places.{stands, heardAt}
+use Rattle.matching.specs.Matching.{openAt, endedAt, matches, sightOf}
+use Rattle.rule.specs.Rule.{recordingAt, fromRecording, fromRunningOn, nextCopy, nextTimer}
 use Rattle.desk.specs.Moments.{moment, nextSecond, quiet, walkedIn, walkedTo, liveCount}
 use Rattle.desk.specs.Calls.{hearingAt, packetOf, waitOf, roomIn, addOf, askOf}
 use Rattle.answer.specs.Text.{decimalIn}

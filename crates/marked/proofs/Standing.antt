@@ -7,8 +7,8 @@ use borrow.Author.Tests.{le-leb, lt-leb}
 use Rattle.label.specs.declared.Label.{Label}
 use Rattle.label.specs.declared.pil.Service.the-variants.{Continuation}
 use Rattle.label.specs.Pil.{serviceOf}
-use Rattle.rule.specs.Rule.{standFor, stands, heardAt}
-use Rattle.rule.specs.declared.Stamped.{Stamped}
+use Rattle.places.specs.Places.{standFor, stands, heardAt}
+use Rattle.places.specs.declared.Stamped.{Stamped}
 use Rattle.marked.specs.Marked.{StampedAt, restamped}
 
 module _ (t s : ℕ) (l : Stamped) (h : StampedAt t l) where

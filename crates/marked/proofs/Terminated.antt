@@ -18,9 +18,11 @@ use Rattle.answer.proofs.Every.{accepted}
 use Rattle.calendar.specs.declared.Window.{Window}
 use Rattle.calendar.specs.Calendar.{windowIn, realIn}
 use Rattle.calendar.proofs.Windows.{realIn-parts, windowIn-given}
-use Rattle.rule.specs.Rule.{noLabel, stands, stamped, heardAt, openIn, openAt, endedAt, matches, fromRecording, runFor, fromRunningOn, nextCopy, nextTimer, liveTimer}
-use Rattle.rule.specs.declared.Stamped.{Stamped}
-use Rattle.rule.specs.declared.Booking.{Booking}
+use Rattle.places.specs.Places.{noLabel, stands, stamped, heardAt}
+use Rattle.matching.specs.Matching.{openIn, openAt, endedAt, matches}
+use Rattle.rule.specs.Rule.{fromRecording, runFor, fromRunningOn, nextCopy, nextTimer, liveTimer}
+use Rattle.places.specs.declared.Stamped.{Stamped}
+use Rattle.matching.specs.declared.Booking.{Booking}
 use Rattle.rule.specs.declared.Copy.the-variants.{Recording, RunningOn}
 use Rattle.desk.specs.declared.Desk.{Desk}
 use Rattle.desk.specs.Moments.{moment, clockedAt, nextSecond, walk, passTo}

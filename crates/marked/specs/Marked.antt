@@ -13,9 +13,11 @@ use Rattle.label.specs.declared.Label.{Label}
 use Rattle.label.specs.declared.pil.Service.the-variants.{InhibitTerminate, Continuation}
 use Rattle.label.specs.Packet.{valueOf, readingOf, writingOf}
 use Rattle.label.specs.Pil.{partsOf, serviceOf}
-use Rattle.rule.specs.Rule.{noLabel, stands, heardAt, openAt, matches, nextCopy, isLive, liveTimer}
-use Rattle.rule.specs.declared.Stamped.{Stamped}
-use Rattle.rule.specs.declared.Booking.{Booking}
+use Rattle.places.specs.Places.{noLabel, stands, heardAt}
+use Rattle.matching.specs.Matching.{openAt, matches}
+use Rattle.rule.specs.Rule.{nextCopy, isLive, liveTimer}
+use Rattle.places.specs.declared.Stamped.{Stamped}
+use Rattle.matching.specs.declared.Booking.{Booking}
 use Rattle.rule.specs.declared.Copy.{Copy}
 use Rattle.rule.specs.declared.Copy.the-variants.{Waiting, Prepared, Recording, RunningOn}
 use Rattle.desk.specs.declared.Desk.{Desk}

@@ -9,16 +9,18 @@ use Rattle.calendar.specs.declared.Window.{Window}
 use Rattle.calendar.specs.Calendar.{windowIn}
 use lib.ListN.{getD}
 use Rattle.answer.proofs.Cases.{by-test, both-true}
-use Rattle.rule.specs.Rule.{noLabel, openIn, closedIn, openAt, endedAt, matches, sightOf, recordingAt, notLive, fromPrepared, movesOr, fromRecording, fromRunningOn, held, nextCopy, nextTimer}
-use Rattle.rule.specs.Look.{named}
-use Rattle.rule.specs.declared.Stamped.{Stamped}
-use Rattle.rule.specs.declared.Booking.{Booking}
+use Rattle.places.specs.Places.{noLabel}
+use Rattle.matching.specs.Matching.{openIn, closedIn, openAt, endedAt, matches, sightOf}
+use Rattle.rule.specs.Rule.{recordingAt, notLive, fromPrepared, movesOr, fromRecording, fromRunningOn, held, nextCopy, nextTimer}
+use Rattle.matching.specs.Look.{named}
+use Rattle.places.specs.declared.Stamped.{Stamped}
+use Rattle.matching.specs.declared.Booking.{Booking}
 use Rattle.rule.specs.declared.Copy.{Copy}
 use Rattle.rule.specs.declared.Copy.the-variants.{Free, Waiting, Prepared, Recording, RunningOn}
 use Rattle.rule.specs.declared.Timer.{Timer}
-use Rattle.rule.specs.declared.Sight.{Sight}
-use Rattle.rule.specs.declared.Sight.the-variants.{Nothing, Prepare, Start}
-use Rattle.rule.proofs.Sights.{match-named, sight-shut}
+use Rattle.matching.specs.declared.Sight.{Sight}
+use Rattle.matching.specs.declared.Sight.the-variants.{Nothing, Prepare, Start}
+use Rattle.matching.proofs.Sights.{match-named, sight-shut}
 
 ended-in : (s : ℕ) (a : Answer Window) → closedIn s a ≡ true → openIn s a ≡ false
 ended-in s (refused n) e = refl

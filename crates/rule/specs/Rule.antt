@@ -1,103 +1,19 @@
--- The second-by-second rule (document 01, amended by 02) for one timer. A second is a number of the clock; a place is a number from 0 to 15.
-use Prim.Native.Nat.{ℕ, suc, _-_}
-use mathlib.Core.Bool.{Bool, true, false, cond, not, _&&_}
-use mathlib.Core.List.{List, [], _∷_}
-use lib.Dec.{ltb, leb, eqb}
+-- The second-by-second rule (document 01, amended by 02) for one timer: how its copy goes on. A second is a number of the clock; a place is a
+-- number from 0 to 15.
+use Prim.Native.Nat.{ℕ, _-_}
+use mathlib.Core.Bool.{Bool, true, false, cond, _&&_}
+use mathlib.Core.List.{List}
+use lib.Dec.{ltb}
 use lib.ListN.{getD}
-use Rattle.answer.specs.Answer.{Answer, refused, given}
-use Rattle.label.specs.declared.Label.{Label}
-use Rattle.label.specs.declared.pil.Service.{Service}
-use Rattle.label.specs.declared.pil.Service.the-variants.{Programme, TimerControl, InhibitTerminate, Interruption, Continuation, NoSpecificValue}
-use Rattle.label.specs.Pil.{serviceOf}
-use Rattle.calendar.specs.declared.Window.{Window}
-use Rattle.calendar.specs.Calendar.{windowIn}
-use Rattle.rule.specs.declared.Stamped.{Stamped}
-use Rattle.rule.specs.declared.Booking.{Booking}
+use Rattle.places.specs.declared.Stamped.{Stamped}
+use Rattle.matching.specs.declared.Booking.{Booking}
 use Rattle.rule.specs.declared.Copy.{Copy}
 use Rattle.rule.specs.declared.Copy.the-variants.{Free, Waiting, Prepared, Recording, RunningOn}
 use Rattle.rule.specs.declared.Timer.{Timer}
-use Rattle.rule.specs.declared.Sight.{Sight}
-use Rattle.rule.specs.declared.Sight.the-variants.{Nothing, Prepare, Start}
-
--- ── Standing ───────────────────────────────────────────────────────────────────────────────────────────────────────
--- 'no label at any place'
-abbrev pub noLabel : Stamped
-noLabel = record { heard = false; stamp = 0; cni = 0; pil = 0; prf = false; mi = false }
-
--- how long a label stands
-abbrev pub standFor : ℕ
-standFor = 5
-
--- 'a label stands at second s if s - stamp ≤ 5'
-unfoldable pub stands : ℕ → Stamped → Bool
-stands s l = l .heard && leb (s - l .stamp) standFor
-
-abbrev pub flag : ℕ → Bool
-flag b = not (eqb b 0)
-
--- 'puts its label at its place, stamped t'
-abbrev pub stamped : ℕ → Label → Stamped
-stamped t l = record { heard = true; stamp = t; cni = l .cni; pil = l .pil; prf = flag (l .prf); mi = flag (l .mi) }
-
--- 'it sets the stamp of a label that stands there to t and does nothing to an empty or lapsed place'
-abbrev pub renewed : ℕ → Stamped → Stamped
-renewed t old =
-    cond (stands t old) (record { heard = old .heard; stamp = t; cni = old .cni; pil = old .pil; prf = old .prf; mi = old .mi }) old
-
-abbrev pub isContinuation : Service → Bool
-isContinuation Programme = false
-isContinuation TimerControl = false
-isContinuation InhibitTerminate = false
-isContinuation Interruption = false
-isContinuation Continuation = true
-isContinuation NoSpecificValue = false
-
--- what a place holds after a label at second t: 'a continuation code puts no label', 'other service codes and no-specific-value stand as labels'
-unfoldable pub heardAt : ℕ → Label → Stamped → Stamped
-heardAt t l old = cond (isContinuation (serviceOf (l .pil))) (renewed t old) (stamped t l)
-
--- ── Match ──────────────────────────────────────────────────────────────────────────────────────────────────────────
-abbrev pub openIn : ℕ → Answer Window → Bool
-openIn s (refused n) = false
-openIn s (given w) = leb (w .opens) s && ltb s (w .closes)
-
--- the timer's window is open at second s; a booking that is not real has none
-unfoldable pub openAt : ℕ → Booking → Bool
-openAt s b = openIn s (windowIn (b .pil) (b .year))
-
-abbrev pub closedIn : ℕ → Answer Window → Bool
-closedIn s (refused n) = true
-closedIn s (given w) = leb (w .closes) s
-
--- 'a window has ended when the clock has reached its close'
-unfoldable pub endedAt : ℕ → Booking → Bool
-endedAt s b = closedIn s (windowIn (b .pil) (b .year))
-
--- 'a standing label matches a timer if CNI and PIL are equal and the timer's window is open'
-unfoldable pub matches : ℕ → Booking → Stamped → Bool
-matches s b l = stands s l && eqb (l .cni) (b .cni) && eqb (l .pil) (b .pil) && openAt s b
-
--- ── what a timer goes by ───────────────────────────────────────────────────────────────────────────────────────────
-pub data Found : Type 0 where
-  nowhere : Found
-  at : ℕ → Found
-
--- the lowest number, counted from i, whose element passes
-abbrev pub lowestFrom : {A : Type 0} → (A → Bool) → ℕ → List A → Found
-lowestFrom f i [] = nowhere
-lowestFrom f i (x ∷ xs) = cond (f x) (at i) (lowestFrom f (suc i) xs)
-
-abbrev pub lowest : {A : Type 0} → (A → Bool) → List A → Found
-lowest f xs = lowestFrom f 0 xs
-
-abbrev pub sightBy : Found → Found → Sight
-sightBy (at q) f = Start q
-sightBy nowhere (at q) = Prepare q
-sightBy nowhere nowhere = Nothing
-
--- 'the lowest match with PRF 0'; 'failing that, any match with PRF 1', and of these 'the lowest place that matches' (02, #101)
-unfoldable pub sightOf : ℕ → List Stamped → Booking → Sight
-sightOf s ls b = sightBy (lowest (λ l. matches s b l && not (l .prf)) ls) (lowest (matches s b) ls)
+use Rattle.matching.specs.declared.Sight.{Sight}
+use Rattle.matching.specs.declared.Sight.the-variants.{Nothing, Prepare, Start}
+use Rattle.places.specs.Places.{noLabel}
+use Rattle.matching.specs.Matching.{endedAt, matches, sightOf}
 
 -- ── Moments: how a copy goes on at second s ────────────────────────────────────────────────────────────────────────
 -- 'whenever a copy becomes recording at a place or moves to one, it remembers the MI of the label there'

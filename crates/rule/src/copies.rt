@@ -1,15 +1,16 @@
 // Moments: the copy's next state, by cases of its present one.
 ghost use mathlib.Core.Path.{_≡_};
-ghost use Rattle.rule.specs.Rule.{recordingAt, notLive, fromPrepared, movesOr, held, nextCopy, nextTimer, isLive, sightOf};
-use crate::Booking;
+ghost use Rattle.matching.specs.Matching.{sightOf};
+ghost use Rattle.rule.specs.Rule.{recordingAt, notLive, fromPrepared, movesOr, held, nextCopy, nextTimer, isLive};
 use crate::Copy;
-use crate::Sight;
-use crate::Stamped;
 use crate::Timer;
-use crate::matching::ended_at;
-use crate::matching::matches;
-use crate::matching::sight_of;
-use crate::places::label_at;
+use matching::Booking;
+use matching::Sight;
+use matching::seeing::matches;
+use matching::seeing::sight_of;
+use matching::windows::ended_at;
+use places::Stamped;
+use places::label_at;
 
 // 'It runs on while s - v < 30.'
 const RUN_FOR: u64 = 30;

@@ -14,8 +14,9 @@ use Rattle.label.specs.Packet.{readerRows, readingOf, labelIn}
 use Rattle.label.specs.Pil.{twentyBits}
 use Rattle.calendar.specs.Calendar.{realIn, windowAt, windowIn}
 use Rattle.calendar.specs.declared.Window.{Window}
-use Rattle.rule.specs.Rule.{Found, nowhere, at, lowestFrom, nextTimer, liveTimer}
-use Rattle.rule.specs.declared.Booking.{Booking}
+use Rattle.places.specs.Places.{Found, nowhere, at, lowestFrom}
+use Rattle.rule.specs.Rule.{nextTimer, liveTimer}
+use Rattle.matching.specs.declared.Booking.{Booking}
 use Rattle.rule.specs.declared.Copy.the-variants.{Waiting}
 use Rattle.rule.specs.declared.Timer.{Timer}
 use Rattle.desk.specs.declared.Desk.{Desk}

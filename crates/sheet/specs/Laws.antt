@@ -5,7 +5,7 @@ use mathlib.Core.Path.{_≡_}
 use mathlib.Core.List.{List, [], _∷_, _++_}
 use lib.ListN.{length}
 use Rattle.answer.specs.Answer.{Unique, number, given}
-use Rattle.rule.specs.declared.Booking.{Booking}
+use Rattle.matching.specs.declared.Booking.{Booking}
 use Rattle.desk.specs.declared.Desk.{Desk}
 use Rattle.desk.specs.Calls.{Told, packetOf, addOf}
 use Rattle.desk.specs.Moments.{liveCount}

@@ -7,7 +7,7 @@ use Rattle.answer.specs.Answer.{Answer, refused, given, number, after}
 use Rattle.answer.specs.Bytes.{numberOf}
 use Rattle.answer.specs.Text.{space, lineFeed, decimalIn}
 use Rattle.items.specs.Items.{Item, timer, packet, itemsOf}
-use Rattle.rule.specs.declared.Booking.{Booking}
+use Rattle.matching.specs.declared.Booking.{Booking}
 use Rattle.desk.specs.declared.Desk.{Desk}
 use Rattle.desk.specs.Moments.{fresh, liveCount}
 use Rattle.desk.specs.Calls.{packetOf, addOf}

@@ -7,8 +7,8 @@ use lib.Dec.{leb}
 use lib.ListN.{getD, set}
 use Rattle.answer.specs.Answer.{Unique}
 use Rattle.answer.specs.Lists.{some, count}
-use Rattle.rule.specs.declared.Stamped.{Stamped}
-use Rattle.rule.specs.declared.Booking.{Booking}
+use Rattle.places.specs.declared.Stamped.{Stamped}
+use Rattle.matching.specs.declared.Booking.{Booking}
 use Rattle.rule.specs.declared.Timer.{Timer}
 use Rattle.rule.specs.Rule.{liveTimer, nextTimer}
 use Rattle.sixteen.specs.Sixteen.{noTimer, active, sameBooking, roomAt, isNowhere, slotOf}

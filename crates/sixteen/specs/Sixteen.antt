@@ -3,8 +3,10 @@ use Prim.Native.Nat.{ℕ}
 use mathlib.Core.Bool.{Bool, true, false, not, _&&_}
 use mathlib.Core.List.{List}
 use lib.Dec.{eqb}
-use Rattle.rule.specs.Rule.{endedAt, held, Found, nowhere, at, lowest}
-use Rattle.rule.specs.declared.Booking.{Booking}
+use Rattle.places.specs.Places.{Found, nowhere, at, lowest}
+use Rattle.matching.specs.Matching.{endedAt}
+use Rattle.rule.specs.Rule.{held}
+use Rattle.matching.specs.declared.Booking.{Booking}
 use Rattle.rule.specs.declared.Timer.{Timer}
 use Rattle.rule.specs.declared.Copy.the-variants.{Free}
 

@@ -7,14 +7,14 @@ ghost use lib.ListN.{getD, set};
 ghost use Rattle.answer.specs.Lists.{some, count};
 ghost use Rattle.rule.specs.Rule.{liveTimer, nextTimer};
 ghost use Rattle.sixteen.specs.Sixteen.{noTimer, active, sameBooking, roomAt, isNowhere, slotOf};
-use rule::Booking;
+use matching::Booking;
+use matching::windows::ended_at;
+use places::Stamped;
 use rule::Copy;
-use rule::Stamped;
 use rule::Timer;
 use rule::copies::is_held;
 use rule::copies::is_live;
 use rule::copies::next_timer;
-use rule::matching::ended_at;
 
 pub fn no_timer() -> Timer
     ensures { λ r. ⌜ r ≡ noTimer ⌝ }

@@ -1,7 +1,7 @@
 -- Each exit is a row of the table, or what the copy says.
 use mathlib.Core.Path.{_≡_, ap}
 use Rattle.answer.specs.Answer.{given}
-use Rattle.rule.specs.Rule.{endedAt}
+use Rattle.matching.specs.Matching.{endedAt}
 use Rattle.desk.specs.Calls.{askOf}
 use borrow.Author.Needs.{needs}
 use Rattle.desk.proofs.Desk.ask.Statement.{statement}

@@ -1,7 +1,7 @@
 -- By cases of what is seen.
 use mathlib.Core.Path.{_≡_, refl, sym, _∙_}
-use Rattle.rule.specs.Rule.{sightOf}
-use Rattle.rule.specs.declared.Sight.the-variants as Sight
+use Rattle.matching.specs.Matching.{sightOf}
+use Rattle.matching.specs.declared.Sight.the-variants as Sight
 use borrow.Author.Needs.{needs}
 use Rattle.rule.proofs.copies.from_prepared.Statement.{statement}
 use Rattle.rule.proofs.copies.from_prepared.Tie as tie

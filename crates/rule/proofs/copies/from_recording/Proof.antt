@@ -2,7 +2,9 @@
 use mathlib.Core.Bool.{true, false}
 use mathlib.Core.Path.{_≡_, refl, sym, _∙_}
 use lib.ListN.{getD}
-use Rattle.rule.specs.Rule.{noLabel, endedAt, matches, recordingAt}
+use Rattle.places.specs.Places.{noLabel}
+use Rattle.matching.specs.Matching.{endedAt, matches}
+use Rattle.rule.specs.Rule.{recordingAt}
 use Rattle.rule.proofs.Steps.{moves-not-live, live-over, recording-stays, recording-leaves}
 use borrow.Author.Needs.{needs}
 use Rattle.rule.proofs.copies.from_recording.Statement.{statement}

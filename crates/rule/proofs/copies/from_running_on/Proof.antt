@@ -4,8 +4,9 @@ use mathlib.Core.Bool.{true, false}
 use mathlib.Core.Path.{_≡_, refl, sym, _∙_}
 use native.Mathlib.Omega.{arith}
 use lib.Dec.{ltb}
-use Rattle.rule.specs.Rule.{endedAt, runFor, fromRunningOn}
-use Rattle.rule.proofs.Ages.{below}
+use Rattle.matching.specs.Matching.{endedAt}
+use Rattle.rule.specs.Rule.{runFor, fromRunningOn}
+use Rattle.places.proofs.Ages.{below}
 use Rattle.rule.proofs.Steps.{moves-not-live, live-over, running-on}
 use borrow.Author.Needs.{needs}
 use Rattle.rule.proofs.copies.from_running_on.Statement.{statement}

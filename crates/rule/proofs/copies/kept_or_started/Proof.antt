@@ -4,7 +4,7 @@ use mathlib.Core.Bool.{true, false}
 use mathlib.Core.Path.{_≡_, refl}
 use lib.Dec.{ltb}
 use Rattle.rule.specs.Rule.{prepareFor}
-use Rattle.rule.proofs.Ages.{above}
+use Rattle.places.proofs.Ages.{above}
 use borrow.Author.Needs.{needs}
 use Rattle.rule.proofs.copies.kept_or_started.Statement.{statement}
 use Rattle.rule.proofs.copies.kept_or_started.Tie as tie

@@ -2,7 +2,7 @@
 use Prim.Native.Nat.{_-_}
 use mathlib.Core.Path.{refl}
 use mathlib.Core.Bool.{_&&_}
-use Rattle.rule.proofs.Search.{NotBefore, some-hit, miss, some-missed}
+use Rattle.places.proofs.Search.{NotBefore, some-hit, miss, some-missed}
 use Rattle.sixteen.specs.Sixteen.{active, sameBooking}
 use borrow.Author.Needs.{needs}
 use Rattle.sixteen.proofs.slots.any_holds.Statement.{statement}

@@ -2,7 +2,7 @@
 use Prim.Native.Nat.{_-_}
 use mathlib.Core.Path.{refl}
 use Rattle.rule.specs.Rule.{liveTimer}
-use Rattle.rule.proofs.Search.{NotBefore, some-hit, miss, some-missed}
+use Rattle.places.proofs.Search.{NotBefore, some-hit, miss, some-missed}
 use borrow.Author.Needs.{needs}
 use Rattle.sixteen.proofs.slots.any_live.Statement.{statement}
 use Rattle.sixteen.proofs.slots.any_live.Tie as tie

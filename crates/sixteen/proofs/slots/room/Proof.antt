@@ -3,7 +3,7 @@ use Prim.Native.Nat.{_-_}
 use mathlib.Core.Bool.{not}
 use mathlib.Core.Path.{refl, ap}
 use borrow.Author.Tests.{lt-leb}
-use Rattle.rule.proofs.Search.{NotBefore, hit, miss, none}
+use Rattle.places.proofs.Search.{NotBefore, hit, miss, none}
 use Rattle.sixteen.specs.Sixteen.{active}
 use borrow.Author.Needs.{needs}
 use Rattle.sixteen.proofs.slots.room.Statement.{statement}

@@ -1,0 +1,4 @@
+pub mod First
+pub mod Sights
+pub mod Codes
+pub mod Proved

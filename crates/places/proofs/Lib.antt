@@ -1,0 +1,4 @@
+pub mod Ages
+pub mod Search
+pub mod Codes
+pub mod Proved

@@ -1,0 +1,39 @@
+-- The loop's invariant: no label before place i stands.
+use Prim.Native.Nat.{_-_}
+use mathlib.Core.Path.{refl}
+use Rattle.places.specs.Places.{stands}
+use Rattle.places.proofs.Search.{NotBefore, some-hit, miss, some-missed}
+use borrow.Author.Needs.{needs}
+use Rattle.places.proofs.any_stands.Statement.{statement}
+use Rattle.places.proofs.any_stands.Tie as tie
+
+abbrev Inv-loop : tie.InvT-loop
+Inv-loop s places i₀ i = NotBefore (stands s) places i
+
+abbrev μ-loop : tie.MeasureT-loop
+μ-loop s places i₀ i = 16 - i
+
+returns : tie.Need-returns Inv-loop μ-loop
+returns c = some-hit _ _ _ (c .before .before .before .before .loop .inv) (search needs) (c .before .stands .ensures) (c .if1 .taken)
+
+loop-again : tie.Need-loop-again Inv-loop μ-loop
+loop-again c = miss _ _ _ (c .before .before .before .before .loop .inv) (search needs) (c .before .stands .ensures) (c .if1 .left)
+
+returns-2 : tie.Need-returns-2 Inv-loop μ-loop
+returns-2 c = some-missed _ _ (c .before .loop .inv) (search needs)
+
+pub any-stands-spec : {M : Type 1} → statement M
+any-stands-spec =
+    tie.close
+    (tie.spec
+    Inv-loop
+    μ-loop
+    (λ c. (search needs, search needs, refl))
+    (λ c. search needs)
+    (λ c. search needs)
+    (λ c κs. search needs)
+    returns
+    (λ c. search needs)
+    (λ c. search needs)
+    loop-again
+    returns-2)
