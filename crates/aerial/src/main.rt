@@ -3,7 +3,8 @@ ghost use Prim.Native.Nat.{_≤_};
 ghost use mathlib.Core.Path.{_≡_};
 ghost use lib.ListN.{length};
 ghost use lib.Seq.{sets};
-ghost use Rattle.tally.specs.Pieces.{endTold, longest};
+ghost use Rattle.report.specs.Room.{longest};
+ghost use Rattle.tally.specs.Pieces.{endTold};
 use tally::Tally;
 
 // A report that finds room is stored whole.

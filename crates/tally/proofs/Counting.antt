@@ -19,9 +19,10 @@ use Rattle.label.specs.Packet.{readerRows, labelIn, mendedIn, receptionOf}
 use Rattle.label.proofs.Mended.{few-mended}
 use Rattle.items.specs.Items.{Item, timer, packet}
 use Rattle.items.specs.Laws.{isPacket}
-use Rattle.tally.specs.declared.Tuner.{Tuner}
+use Rattle.report.specs.declared.Tuner.{Tuner}
+use Rattle.report.specs.Report.{silence}
 use Rattle.tally.specs.Aerial.{tunerIn, receptionIn, receptions, isClean, isMended, mendedBytes, mendedInAll, isRefused, heardFrom}
-use Rattle.tally.specs.Pieces.{most, grown, silence, afterPacket, countedItem, countedItems}
+use Rattle.tally.specs.Pieces.{most, grown, afterPacket, countedItem, countedItems}
 
 -- ── its bytes ──────────────────────────────────────────────────────────────────────────────────────────────────────
 pub packet-at : (held : List ℕ) (hs : List Tuner) → length held ≡ 47 →

@@ -6,7 +6,7 @@ use lib.ListN.{length, drop, drop-of-length-le}
 use Rattle.items.specs.declared.Taken.{Taken}
 use Rattle.items.specs.Pieces.{itemsFound, splitAfter, pieceItems, takenFrom}
 use Rattle.items.proofs.Taking.{Taking, taking}
-use Rattle.tally.specs.declared.Tuner.{Tuner}
+use Rattle.report.specs.declared.Tuner.{Tuner}
 use Rattle.tally.specs.declared.Tally.{Tally}
 use Rattle.tally.specs.Pieces.{countedItems, afterPiece}
 use Rattle.tally.proofs.Machine.{items-more}

@@ -11,10 +11,11 @@ use Rattle.items.specs.Pieces.{splitAfter, pieceItems, leftOver}
 use Rattle.items.specs.Laws.{joined, found, isPacket}
 use Rattle.items.proofs.Machine as split
 use Rattle.items.proofs.Longest.{few-packets}
-use Rattle.tally.specs.declared.Tuner.{Tuner}
+use Rattle.report.specs.declared.Tuner.{Tuner}
+use Rattle.report.specs.Report.{silence, report}
 use Rattle.tally.specs.declared.Tally.{Tally}
-use Rattle.tally.specs.Aerial.{heardFrom, report, aerialOf}
-use Rattle.tally.specs.Pieces.{silence, countedItem, countedItems, afterPiece, blank, endTold}
+use Rattle.tally.specs.Aerial.{heardFrom, aerialOf}
+use Rattle.tally.specs.Pieces.{countedItem, countedItems, afterPiece, blank, endTold}
 use Rattle.tally.specs.Laws.{printed}
 use Rattle.tally.proofs.Counting.{plus, none-plus, heard-more, heard-few}
 

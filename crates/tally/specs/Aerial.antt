@@ -1,16 +1,16 @@
 -- What a sheet tells of the aerials (document 02, #102): one definition over the bytes of the input.
 use Prim.Native.Nat.{ℕ, _+_}
-use mathlib.Core.Bool.{Bool, true, false, cond, not, _&&_}
-use mathlib.Core.List.{List, [], _∷_, _++_}
+use mathlib.Core.Bool.{Bool, true, false, cond, not}
+use mathlib.Core.List.{List, [], _∷_}
 use lib.Dec.{eqb}
 use lib.ListN.{drop, getD}
 use Rattle.answer.specs.Answer.{Answer, refused, given}
 use Rattle.answer.specs.Lists.{count}
-use Rattle.answer.specs.Text.{space, lineFeed, digit, decimalIn}
 use Rattle.label.specs.declared.Received.{Received}
 use Rattle.label.specs.Packet.{receptionOf}
 use Rattle.items.specs.Items.{Item, timer, packet, itemsOf}
-use Rattle.tally.specs.declared.Tuner.{Tuner}
+use Rattle.report.specs.declared.Tuner.{Tuner}
+use Rattle.report.specs.Report.{report}
 
 -- ── what came from a tuner ─────────────────────────────────────────────────────────────────────────────────────────
 -- '47 bytes each: time 4, tuner 1, packet 42'
@@ -57,32 +57,6 @@ heardFrom k is =
     record { clean = count isClean rs; mended = count isMended rs; bytes = mendedInAll rs; refused = count isRefused rs }
 
 -- ── what is printed ────────────────────────────────────────────────────────────────────────────────────────────────
--- 'in decimal'; ten digits hold each of the numbers (law `small`)
-abbrev pub column : ℕ → List ℕ
-column n = space ∷ decimalIn 10 n
-
--- '`A tuner clean mended bytes refused`'
-unfoldable pub aLine : ℕ → Tuner → List ℕ
-aLine k h =
-    65 ∷ space ∷ digit k
-    ∷ column (h .clean) ++ (column (h .mended) ++ (column (h .bytes) ++ (column (h .refused) ++ (lineFeed ∷ []))))
-
--- 'that a packet came from': of a silent tuner nothing is counted (law `once`)
-abbrev pub isSilent : Tuner → Bool
-isSilent h = eqb (h .clean) 0 && eqb (h .mended) 0 && eqb (h .refused) 0
-
-abbrev pub tunerLine : ℕ → Tuner → List ℕ
-tunerLine k h = cond (isSilent h) [] (aLine k h)
-
--- 'then `Z`'; 'input that is short or has a byte left over ends with `X` in its place'
-abbrev pub lastLine : Bool → List ℕ
-lastLine whole = cond whole 90 88 ∷ lineFeed ∷ []
-
--- 'for each of the tuners 0 to 3 .. in order'
-unfoldable pub report : (ℕ → Tuner) → Bool → List ℕ
-report heard whole =
-    tunerLine 0 (heard 0) ++ (tunerLine 1 (heard 1) ++ (tunerLine 2 (heard 2) ++ (tunerLine 3 (heard 3) ++ lastLine whole)))
-
 -- 'one definition over the input's bytes': what came from each tuner among its items
 unfoldable pub aerialOf : List ℕ → List ℕ
 aerialOf xs = let c = itemsOf xs in report (λ k. heardFrom k (c .items)) (c .whole)

@@ -8,9 +8,11 @@ use Rattle.answer.specs.Answer.{Unique}
 use Rattle.items.specs.Items.{Item, itemsOf}
 use Rattle.items.specs.Pieces.{leftOver}
 use Rattle.items.specs.Laws.{joined}
+use Rattle.report.specs.Report.{silence, report}
+use Rattle.report.specs.Room.{longest}
 use Rattle.tally.specs.declared.Tally.{Tally}
-use Rattle.tally.specs.Aerial.{receptions, heardFrom, report, aerialOf}
-use Rattle.tally.specs.Pieces.{silence, blank, afterPiece, endTold, longest, reportedBy, outAfter}
+use Rattle.tally.specs.Aerial.{receptions, heardFrom, aerialOf}
+use Rattle.tally.specs.Pieces.{blank, afterPiece, endTold, reportedBy, outAfter}
 
 -- what is printed after pieces, from a tally on, and then the input's end
 abbrev pub printed : List (List ℕ) → Tally → List ℕ

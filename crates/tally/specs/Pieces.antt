@@ -9,9 +9,11 @@ use Rattle.answer.specs.Answer.{Answer, refused, given}
 use Rattle.label.specs.declared.Received.{Received}
 use Rattle.items.specs.Items.{Item, timer, packet}
 use Rattle.items.specs.Pieces.{unsplit, splitAfter, pieceItems, wholeAt}
-use Rattle.tally.specs.declared.Tuner.{Tuner}
+use Rattle.report.specs.declared.Tuner.{Tuner}
+use Rattle.report.specs.Report.{silence, report}
+use Rattle.report.specs.Room.{longest}
 use Rattle.tally.specs.declared.Tally.{Tally}
-use Rattle.tally.specs.Aerial.{tunerIn, receptionIn, report}
+use Rattle.tally.specs.Aerial.{tunerIn, receptionIn}
 
 -- what thirty-two bits hold at most
 abbrev pub most : ℕ
@@ -20,10 +22,6 @@ most = 4294967295
 -- a count grows by k, and stops at the most: no sheet comes to that (laws `small` and `pieces`)
 unfoldable pub grown : ℕ → ℕ → ℕ
 grown n k = cond (leb (n + k) most) (n + k) most
-
--- nothing has come from a tuner
-abbrev pub silence : Tuner
-silence = record { clean = 0; mended = 0; bytes = 0; refused = 0 }
 
 abbrev pub afterRead : ℕ → Tuner → Tuner
 afterRead mended h =
@@ -55,10 +53,6 @@ blank = record { split = unsplit; tuners = replicate 4 silence }
 -- what the input's end prints
 unfoldable pub endTold : Bool → Tally → List ℕ
 endTold ended t = report (λ k. getD (t .tuners) k silence) (wholeAt ended (t .split))
-
--- no report is longer than this
-abbrev pub longest : ℕ
-longest = 194
 
 -- it is stored from the first place on where the buffer surely holds it, and its length answered; else nothing changes, and 0 is
 unfoldable pub reportedBy : Bool → List ℕ → Tally → ℕ

@@ -5,9 +5,9 @@ ghost use Rattle.items.specs.Items.{packet};
 ghost use Rattle.items.specs.Pieces.{itemsFound};
 ghost use Rattle.label.specs.Packet.{readingAnswer};
 ghost use Rattle.tally.specs.Pieces.{grown, afterRead, afterPacket, countedItem, countedItems};
-use crate::Tuner;
 use items::Found;
 use label::Reading;
+use report::Tuner;
 
 const MOST: u32 = 4294967295;
 

@@ -5,7 +5,8 @@ use mathlib.Core.Path.{_≡_}
 use mathlib.Core.Bool.{true}
 use lib.Dec.{leb}
 use lib.ListN.{length}
-use Rattle.tally.specs.Pieces.{longest, reportedBy, outAfter}
+use Rattle.report.specs.Room.{longest}
+use Rattle.tally.specs.Pieces.{reportedBy, outAfter}
 use Rattle.aerial.proofs.reported.Statement.{statement}
 use Rattle.aerial.proofs.reported.Tie as tie
 

@@ -5,7 +5,8 @@ use native.Mathlib.Omega.{arith}
 use lib.ListN.{take, drop, getD}
 use lib.Seq.{set-out}
 use Rattle.label.specs.Packet.{receptionOf}
-use Rattle.tally.specs.Pieces.{silence, afterPacket}
+use Rattle.report.specs.Report.{silence}
+use Rattle.tally.specs.Pieces.{afterPacket}
 use Rattle.tally.proofs.Counting.{packet-at}
 use Rattle.tally.proofs.counts.counted.Statement.{statement}
 use Rattle.tally.proofs.counts.counted.Tie as tie

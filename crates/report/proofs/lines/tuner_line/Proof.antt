@@ -3,9 +3,9 @@ use borrow.Author.Needs.{needs}
 use mathlib.Core.Bool.{true, false}
 use mathlib.Core.Path.{_≡_, refl}
 use native.Mathlib.Nat.{add-zero}
-use Rattle.tally.specs.Aerial.{isSilent}
-use Rattle.tally.proofs.lines.tuner_line.Statement.{statement}
-use Rattle.tally.proofs.lines.tuner_line.Tie as tie
+use Rattle.report.specs.Report.{isSilent}
+use Rattle.report.proofs.lines.tuner_line.Statement.{statement}
+use Rattle.report.proofs.lines.tuner_line.Tie as tie
 
 returns : tie.Need-returns
 returns c =

@@ -9,13 +9,13 @@ use borrow.Fn.Kinds.{In}
 use borrow.Fn.PlainCycle.{Measures, is, falls, and}
 use Rattle.answer.specs.Text.{decimalIn}
 use Rattle.answer.proofs.Texts.{then, decimal-short, no-digit, last-digit, more-digits}
-use Rattle.tally.proofs.lines.put_decimal.Reads as put-decimal
-use Rattle.tally.proofs.lines.put_decimal.Kinds as put-decimal-kinds
-use Rattle.tally.proofs.lines.+put_decimal.Lts-put_decimal as put-decimal-lts
+use Rattle.report.proofs.lines.put_decimal.Reads as put-decimal
+use Rattle.report.proofs.lines.put_decimal.Kinds as put-decimal-kinds
+use Rattle.report.proofs.lines.+put_decimal.Lts-put_decimal as put-decimal-lts
 use Rattle.answer.proofs.digit.Reads as digit-reads
-use Rattle.tally.proofs.lines.put.Reads as put-reads
-use Rattle.tally.proofs.lines.+put_decimal.{statement}
-use Rattle.tally.proofs.lines.+put_decimal.Tie.{close}
+use Rattle.report.proofs.lines.put.Reads as put-reads
+use Rattle.report.proofs.lines.+put_decimal.{statement}
+use Rattle.report.proofs.lines.+put_decimal.Tie.{close}
 
 abbrev μ-put-decimal : Measures 1 put-decimal-kinds.ps ℕ
 μ-put-decimal κs a = a .1 .1 .1 .0

@@ -3,8 +3,8 @@ use borrow.Author.Needs.{needs}
 use mathlib.Core.List.{[], _∷_}
 use Rattle.answer.specs.Text.{space, decimalIn}
 use Rattle.answer.proofs.Texts.{then}
-use Rattle.tally.proofs.lines.put_column.Statement.{statement}
-use Rattle.tally.proofs.lines.put_column.Tie as tie
+use Rattle.report.proofs.lines.put_column.Statement.{statement}
+use Rattle.report.proofs.lines.put_column.Tie as tie
 
 put-requires : tie.Need-put-requires
 put-requires c κs = search needs

@@ -5,7 +5,7 @@ ghost use mathlib.Core.Path.{_≡_};
 ghost use mathlib.Core.List.{_∷_, []};
 ghost use lib.ListN.{length};
 ghost use Rattle.answer.specs.Text.{space, digit, decimalIn, Stored};
-ghost use Rattle.tally.specs.Aerial.{column, aLine, tunerLine, lastLine};
+ghost use Rattle.report.specs.Report.{column, aLine, tunerLine, lastLine};
 use crate::Tuner;
 use answer::digit;
 

@@ -4,10 +4,10 @@ use mathlib.Core.List.{[], _∷_, _++_}
 use native.Mathlib.Omega.{arith}
 use Rattle.answer.specs.Text.{space, lineFeed, digit}
 use Rattle.answer.proofs.Texts.{then}
-use Rattle.tally.specs.Aerial.{column, aLine}
-use Rattle.tally.proofs.Rooms.{column-short}
-use Rattle.tally.proofs.lines.a_line.Statement.{statement}
-use Rattle.tally.proofs.lines.a_line.Tie as tie
+use Rattle.report.specs.Report.{column, aLine}
+use Rattle.report.proofs.Rooms.{column-short}
+use Rattle.report.proofs.lines.a_line.Statement.{statement}
+use Rattle.report.proofs.lines.a_line.Tie as tie
 
 open-line-requires : tie.Need-open-line-requires
 open-line-requires c κs = search needs

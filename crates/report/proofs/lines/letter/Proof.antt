@@ -1,7 +1,7 @@
 -- `letter`: `Z` where the input is whole, and `X` elsewhere.
 use mathlib.Core.Path.{refl}
-use Rattle.tally.proofs.lines.letter.Statement.{statement}
-use Rattle.tally.proofs.lines.letter.Tie as tie
+use Rattle.report.proofs.lines.letter.Statement.{statement}
+use Rattle.report.proofs.lines.letter.Tie as tie
 
 returns : tie.Need-returns
 returns c = rw (c .if1 .taken) refl

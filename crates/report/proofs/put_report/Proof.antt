@@ -5,11 +5,10 @@ use mathlib.Core.List.{List, _++_}
 use native.Mathlib.Omega.{arith}
 use lib.ListN.{getD}
 use Rattle.answer.proofs.Texts.{then}
-use Rattle.tally.specs.Aerial.{tunerLine, lastLine, report}
-use Rattle.tally.specs.Pieces.{silence}
-use Rattle.tally.proofs.Rooms.{tuner-short}
-use Rattle.tally.proofs.pieces.put_report.Statement.{statement}
-use Rattle.tally.proofs.pieces.put_report.Tie as tie
+use Rattle.report.specs.Report.{silence, tunerLine, lastLine, report}
+use Rattle.report.proofs.Rooms.{tuner-short}
+use Rattle.report.proofs.put_report.Statement.{statement}
+use Rattle.report.proofs.put_report.Tie as tie
 
 array-copy-out-tuner-line : tie.Need-array-copy-out-tuner-line
 array-copy-out-tuner-line c = search needs

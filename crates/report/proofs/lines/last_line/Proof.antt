@@ -3,8 +3,8 @@ use borrow.Author.Needs.{needs}
 use mathlib.Core.List.{[], _∷_}
 use Rattle.answer.specs.Text.{lineFeed}
 use Rattle.answer.proofs.Texts.{then}
-use Rattle.tally.proofs.lines.last_line.Statement.{statement}
-use Rattle.tally.proofs.lines.last_line.Tie as tie
+use Rattle.report.proofs.lines.last_line.Statement.{statement}
+use Rattle.report.proofs.lines.last_line.Tie as tie
 
 letter-requires : tie.Need-letter-requires
 letter-requires c κs = search needs
