@@ -1,0 +1,9 @@
+pub mod Bits
+pub mod Masks
+pub mod Flips
+pub mod Good
+pub mod Laid
+pub mod Near
+pub mod Words
+pub mod Decoded
+pub mod Proved
