@@ -1,0 +1,14 @@
+pub mod Facts
+pub mod Filled
+pub mod Rows
+pub mod Meant
+pub mod Ranges
+pub mod Active
+pub mod Sent
+pub mod Round
+pub mod Damage
+pub mod Seventeen
+pub mod Most
+pub mod Parts
+pub mod Numbers
+pub mod Proved
