@@ -1,0 +1,4 @@
+pub mod Tests
+pub mod Listed
+pub mod Sends
+pub mod Proved
