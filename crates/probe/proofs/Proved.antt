@@ -1,27 +1,27 @@
 -- The laws of the exported calls.
-use Prim.Native.Nat.{ℕ}
-use mathlib.Core.List.{List}
-use mathlib.Core.Path.{_≡_}
-use Rattle.answer.specs.Answer.{Answer, after, number, Unique}
-use Rattle.answer.proofs.Answers.{equation, paired}
+use Rattle.answer.specs.Answer.{after, number}
+use Rattle.answer.proofs.Answers.{equation}
 use Rattle.calendar.specs.Calendar.{windowIn}
 use Rattle.hamming.specs.Byte.{nibbleOf, codingOf}
 use Rattle.label.specs.Pil.{serviceOf}
-use Rattle.probe.specs.Plain.{nibbleNumber, byteOr, readInto, writeFrom, serviceNumber, windowOr}
-use Rattle.probe.specs.Laws.{Laws, Left}
-
--- a number, a buffer and what was lent to be read, each by an equation
-left : (a : Answer (List ℕ)) (was lent : List ℕ) → Unique {A = Left} (λ o. (o .0 ≡ number a) × ((o .1 .0 ≡ after was a) × (o .1 .1 ≡ lent)))
-left a was lent =
-    paired (λ n. n ≡ number a) (λ o. (o .0 ≡ after was a) × (o .1 ≡ lent)) (equation (number a))
-    (paired (λ q. q ≡ after was a) (λ q. q ≡ lent) (equation (after was a)) (equation lent))
+use Rattle.fields.specs.Fields.{plain, pageInto, pageFrom, packetsTold, bytesLeft, pilFrom}
+use Rattle.fields.proofs.Proved.{left, one-left}
+use Rattle.triplet.specs.Word.{wordOf, tripletOf}
+use Rattle.triplet.specs.Word as word
+use Rattle.probe.specs.Plain.{nibbleNumber, byteOr, readInto, writeFrom, serviceNumber, windowOr, tripletNumber}
+use Rattle.probe.specs.Laws.{Laws}
 
 pub laws : Laws
 laws = record {
   decode-unique = λ b. equation (nibbleNumber (nibbleOf b));
   encode-unique = λ v. equation (byteOr (codingOf v));
-  read-unique = λ p out. left (readInto p out) out p;
-  write-unique = λ f p. left (writeFrom f p) p f;
+  read-unique = λ p out. left (number (readInto p out)) (after out (readInto p out)) p;
+  write-unique = λ f p. left (number (writeFrom f p)) (after p (writeFrom f p)) f;
   service-unique = λ pil. equation (serviceNumber (serviceOf pil));
   window-unique = λ pil year. equation (windowOr (windowIn pil year));
+  triplet-unique = λ a b c. equation (tripletNumber (tripletOf (wordOf a b c)));
+  triplet-word-unique = λ v. equation (plain 16777216 (word.codingOf v));
+  page-read-unique = λ p out. left (number (pageInto p out)) (after out (pageInto p out)) p;
+  page-write-unique = λ f buf. left (plain 256 (packetsTold (pageFrom f buf))) (after buf (bytesLeft (pageFrom f buf))) f;
+  pil-unique = λ f. one-left (plain 16777216 (pilFrom f)) f;
 }

@@ -7,19 +7,9 @@ use Rattle.answer.specs.Answer.{Answer, refused, given, number, after, andThen}
 use Rattle.label.specs.declared.Label.{Label}
 use Rattle.label.specs.declared.Received.{Received}
 use Rattle.label.specs.Packet.{receptionOf, writingOf}
-use Rattle.label.proofs.Rows.{other-length, that-length}
-use Rattle.probe.specs.Plain.{wrongRoom, roomOf, receivedBytes, labelOf, readInto, writeFrom}
-
--- an answer that is another, as its number and as what it leaves of a buffer
-pub as-both : (was : List ℕ) {a b : Answer (List ℕ)} → a ≡ b → (number a ≡ number b) × (after was a ≡ after was b)
-as-both was e = (ap number e, ap (after was) e)
-
-module _ (n : ℕ) (f : List ℕ) (g : List ℕ → Answer (List ℕ)) where
-  through : length f ≡ n → g f ≡ andThen (roomOf n f) g
-  through h = rw (that-length f h)
-
-  stopped : (length f ≡ n → ⊥) → refused wrongRoom ≡ andThen (roomOf n f) g
-  stopped h = rw (other-length f h)
+use Rattle.fields.specs.Fields.{wrongRoom}
+use Rattle.fields.proofs.Through.{as-both, through, stopped}
+use Rattle.probe.specs.Plain.{receivedBytes, labelOf, readInto, writeFrom}
 
 abbrev inBytes : Answer Received → Answer (List ℕ)
 inBytes a = andThen a (λ r. given (receivedBytes r))

@@ -1,10 +1,8 @@
 -- The answers of the crates below as plain numbers and bytes.
 use Prim.Native.Nat.{ℕ, _+_, _*_, _/_, _%_}
-use mathlib.Core.Bool.{not}
 use mathlib.Core.List.{List, [], _∷_, _++_}
-use lib.Dec.{eqb}
-use lib.ListN.{length, getD}
-use Rattle.answer.specs.Answer.{Answer, refused, given, firstOf, andThen}
+use lib.ListN.{getD}
+use Rattle.answer.specs.Answer.{Answer, refused, given, andThen}
 use Rattle.answer.specs.Bytes.{numberOf}
 use Rattle.calendar.specs.declared.Window.{Window}
 use Rattle.hamming.specs.declared.Nibble.{Nibble}
@@ -14,6 +12,9 @@ use Rattle.label.specs.declared.Received.{Received}
 use Rattle.label.specs.declared.pil.Service.{Service}
 use Rattle.label.specs.declared.pil.Service.the-variants.{Programme, TimerControl, InhibitTerminate, Interruption, Continuation, NoSpecificValue}
 use Rattle.label.specs.Packet.{receptionOf, writingOf}
+use Rattle.fields.specs.Fields.{roomOf}
+use Rattle.triplet.specs.declared.Triplet.{Triplet}
+use Rattle.triplet.specs.declared.Triplet.the-variants as triplet
 
 -- the value of a clean byte, 32 more for a mended one, and 16 for a damaged one
 abbrev pub nibbleNumber : Nibble → ℕ
@@ -50,14 +51,6 @@ labelOf f = record {
   pty = getD f 12 0;
 }
 
--- the answer where the bytes lent for a label are more or fewer: no number of the paper
-abbrev pub wrongRoom : ℕ
-wrongRoom = 255
-
--- bytes that are n in number
-abbrev pub roomOf : ℕ → List ℕ → Answer (List ℕ)
-roomOf n f = firstOf ((not (eqb (length f) n), wrongRoom) ∷ []) f
-
 -- what a packet is received as, in fourteen bytes of a lent buffer
 unfoldable pub readInto : List ℕ → List ℕ → Answer (List ℕ)
 readInto p out = andThen (roomOf 14 out) (λ o. andThen (receptionOf p) (λ r. given (receivedBytes r)))
@@ -78,3 +71,9 @@ serviceNumber NoSpecificValue = 5
 abbrev pub windowOr : Answer Window → ℕ
 windowOr (refused n) = n
 windowOr (given w) = w .opens * 4294967296 + w .closes
+
+-- the value of a clean word, 524288 more for a mended one, and 262144 for a damaged one
+abbrev pub tripletNumber : Triplet → ℕ
+tripletNumber triplet.Damaged = 262144
+tripletNumber (triplet.Clean v) = v
+tripletNumber (triplet.Mended v) = 524288 + v

@@ -5,9 +5,13 @@ ghost use Rattle.answer.specs.Answer.{number, after};
 ghost use Rattle.hamming.specs.Byte.{nibbleOf, codingOf};
 ghost use Rattle.label.specs.Pil.{serviceOf};
 ghost use Rattle.calendar.specs.Calendar.{windowIn};
+ghost use Rattle.triplet.specs.Word.{wordOf, tripletOf};
+ghost use Rattle.triplet.specs.Word as word;
+ghost use Rattle.fields.specs.Fields.{plain, pageInto, pageFrom, packetsTold, bytesLeft, pilFrom};
 ghost use lib.ListN.{length};
 ghost use Rattle.probe.specs.Laws.{Laws};
 ghost use Rattle.probe.specs.Plain.{nibbleNumber, byteOr, receivedBytes, labelOf, readInto, writeFrom, serviceNumber, windowOr};
+ghost use Rattle.probe.specs.Plain.{tripletNumber};
 use answer::pair;
 use answer::triple;
 use calendar::Validity;
@@ -17,6 +21,7 @@ use label::Label;
 use label::Reading;
 use label::Received;
 use label::pil::Service;
+use triplet::Triplet;
 
 // The answer where the bytes lent for a label are more or fewer: no number of the paper.
 const WRONG_ROOM: u8 = 255;
@@ -143,6 +148,56 @@ pub extern "C" fn probe_window(pil: u32, year: u8) -> u64
         Validity::Refused => 11,
         Validity::Given(w) => w.opens as u64 * 4294967296 + w.closes as u64,
     }
+}
+
+// The value of a clean word, 524288 more for a mended one, and 262144 for a damaged one.
+#[no_mangle]
+pub extern "C" fn probe_triplet(a: u8, b: u8, c: u8) -> u32
+    ensures { λ r. ⌜ r ≡ tripletNumber (tripletOf (wordOf a b c)) ⌝ }
+{
+    let t = triplet::decode(a, b, c);
+    match t {
+        Triplet::Damaged => 262144,
+        Triplet::Clean(v) => v,
+        Triplet::Mended(v) => 524288 + v,
+    }
+}
+
+#[no_mangle]
+pub extern "C" fn probe_triplet_word(v: u32) -> u32
+    ensures { λ r. ⌜ r ≡ plain 16777216 (word.codingOf v) ⌝ }
+{
+    let c = triplet::encode(v);
+    match c {
+        triplet::Coded::TooWide => 318767104,
+        triplet::Coded::Word(w) => w,
+    }
+}
+
+#[no_mangle]
+pub extern "C" fn probe_page_read(page: &[u8], out: &mut [u8]) -> u8
+    ensures { λ r. ⌜ (r ≡ number (pageInto (now (page .entry)) (now (out .entry))))
+        × (now (out .exit) ≡ after (now (out .entry)) (pageInto (now (page .entry)) (now (out .entry)))) ⌝ }
+    ensures { λ r. ⌜ now (page .exit) ≡ now (page .entry) ⌝ }
+{
+    fields::read_into(page, out)
+}
+
+#[no_mangle]
+pub extern "C" fn probe_page_write(fields: &[u8], buf: &mut [u8]) -> u16
+    ensures { λ r. ⌜ (r ≡ plain 256 (packetsTold (pageFrom (now (fields .entry)) (now (buf .entry)))))
+        × (now (buf .exit) ≡ after (now (buf .entry)) (bytesLeft (pageFrom (now (fields .entry)) (now (buf .entry))))) ⌝ }
+    ensures { λ r. ⌜ now (fields .exit) ≡ now (fields .entry) ⌝ }
+{
+    fields::write_from(fields, buf)
+}
+
+#[no_mangle]
+pub extern "C" fn probe_pil(fields: &[u8]) -> u32
+    ensures { λ r. ⌜ r ≡ plain 16777216 (pilFrom (now (fields .entry))) ⌝ }
+    ensures { λ r. ⌜ now (fields .exit) ≡ now (fields .entry) ⌝ }
+{
+    fields::pil_from(fields)
 }
 
 // The laws of these calls, as a promise of the crate.

@@ -2,7 +2,8 @@
 use borrow.Author.Needs.{needs}
 use mathlib.Core.Path.{refl, sym, ap, _∙_}
 use Rattle.label.specs.Packet.{readingAnswer}
-use Rattle.probe.proofs.Through.{as-both, read-stopped, read-through}
+use Rattle.fields.proofs.Through.{as-both}
+use Rattle.probe.proofs.Through.{read-stopped, read-through}
 use Rattle.probe.proofs.probe_read.Statement.{statement}
 use Rattle.probe.proofs.probe_read.Tie as tie
 

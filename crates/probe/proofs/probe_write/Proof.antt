@@ -1,7 +1,8 @@
 -- `probe_write` answers as the writer does, where it is given thirteen bytes.
 use borrow.Author.Needs.{needs}
 use mathlib.Core.Path.{refl, _∙_}
-use Rattle.probe.proofs.Through.{as-both, write-stopped, written}
+use Rattle.fields.proofs.Through.{as-both}
+use Rattle.probe.proofs.Through.{write-stopped, written}
 use Rattle.probe.proofs.probe_write.Statement.{statement}
 use Rattle.probe.proofs.probe_write.Tie as tie
 

@@ -1,0 +1,5 @@
+pub mod Back
+pub mod Through
+pub mod Stored
+pub mod Taken
+pub mod Proved
