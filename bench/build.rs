@@ -1,4 +1,5 @@
-//! Only the program that times packets links the archive of `rt staticlib probe` and libzvbi: the others build without them.
+//! Only the programs that time packets and triplets link the archive of `rt staticlib probe` and libzvbi: the others build without
+//! them.
 use std::path::Path;
 
 fn main() {
@@ -6,6 +7,8 @@ fn main() {
     let probe = Path::new(&here).join("../target/staticlib/libprobe.a");
     println!("cargo:rerun-if-changed=build.rs");
     println!("cargo:rerun-if-changed={}", probe.display());
-    println!("cargo:rustc-link-arg-bin=packets={}", probe.display());
-    println!("cargo:rustc-link-arg-bin=packets=-lzvbi");
+    for bin in ["packets", "triplets"] {
+        println!("cargo:rustc-link-arg-bin={bin}={}", probe.display());
+        println!("cargo:rustc-link-arg-bin={bin}=-lzvbi");
+    }
 }

@@ -4,3 +4,4 @@ pub mod calendar;
 pub mod desk;
 pub mod packet;
 pub mod sheet;
+pub mod turns;

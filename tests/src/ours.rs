@@ -2,6 +2,8 @@
 use crate::command::{compiled, printed, run};
 use independent::paper::{Label, Nibble, Reading};
 
+pub mod pages;
+
 fn ask(call: &str, questions: &[u8]) -> Vec<u8> {
     printed(&run(&[compiled("answers"), String::from(call)]), questions)
 }
@@ -31,25 +33,34 @@ pub fn encode_all() -> Vec<Result<u8, u8>> {
     answers("encode", 256, &values).map(|[refusal, byte]| if refusal == 0 { Ok(byte) } else { Err(refusal) }).collect()
 }
 
-/// A call that is lent bytes to read and bytes to write: the number that it answers, and the second bytes after it.
-fn lend<'a>(call: &str, lent: impl Iterator<Item = (&'a [u8], &'a [u8])>) -> Vec<(u8, Vec<u8>)> {
+/// Lent bytes behind their count.
+fn lent(questions: &mut Vec<u8>, bytes: &[u8]) {
+    questions.extend(u16::try_from(bytes.len()).unwrap().to_be_bytes());
+    questions.extend(bytes);
+}
+
+/// A call that is lent bytes to read and bytes to write: the number that it answers, as bytes, and the second bytes after it.
+fn lend_for<'a, const N: usize>(call: &str, pairs: impl Iterator<Item = (&'a [u8], &'a [u8])>) -> Vec<([u8; N], Vec<u8>)> {
     let (mut questions, mut lengths) = (Vec::new(), Vec::new());
-    for (first, second) in lent {
-        for bytes in [first, second] {
-            questions.push(u8::try_from(bytes.len()).unwrap());
-            questions.extend(bytes);
-        }
+    for (first, second) in pairs {
+        lent(&mut questions, first);
+        lent(&mut questions, second);
         lengths.push(second.len());
     }
     let answers = ask(call, &questions);
-    assert_eq!(answers.len(), lengths.iter().map(|length| 1 + length).sum::<usize>(), "{call}");
+    assert_eq!(answers.len(), lengths.iter().map(|length| N + length).sum::<usize>(), "{call}");
     let mut rest = &answers[..];
     let next = |length| {
-        let (answer, after) = rest.split_at(1 + length);
+        let (answer, after) = rest.split_at(N + length);
         rest = after;
-        (answer[0], answer[1..].to_vec())
+        (answer[..N].try_into().unwrap(), answer[N..].to_vec())
     };
     lengths.into_iter().map(next).collect()
+}
+
+/// The same where the number is one byte.
+fn lend<'a>(call: &str, pairs: impl Iterator<Item = (&'a [u8], &'a [u8])>) -> Vec<(u8, Vec<u8>)> {
+    lend_for(call, pairs).into_iter().map(|([number], left)| (number, left)).collect()
 }
 
 /// The label of each packet and the count of its mended bytes, or the number of the refusal, which leaves the lent bytes as they were.

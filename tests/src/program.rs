@@ -1,18 +1,21 @@
-//! The compiled programs that read a sheet: the sheets that they are given, and what they print.
+//! The compiled programs that read a sheet, or a page: what they are given, and what they print.
 use crate::command::{built, compiled, ended, run, Ended, WHOLE};
-use independent::{aerial, sheet};
+use independent::{aerial, preselection, sheet};
 
 #[derive(Clone, Copy)]
 pub struct Program {
     pub name: &'static str,
-    /// What the independent side prints for a sheet.
+    /// One of the stored sheets, or pages.
+    pub example: &'static str,
+    /// What the independent side prints for a sheet, or a page.
     pub expected: fn(&[u8]) -> String,
 }
 
-pub const PLAY: Program = Program { name: "play", expected: sheet::play };
-pub const AERIAL: Program = Program { name: "aerial", expected: aerial::print };
+pub const PLAY: Program = Program { name: "play", example: "sheets/whole_case.sheet", expected: sheet::play };
+pub const AERIAL: Program = Program { name: "aerial", example: "sheets/whole_case.sheet", expected: aerial::print };
+pub const PAGES: Program = Program { name: "pages", example: "pages.d/an_evening.page", expected: preselection::print };
 
-/// A sheet, and how it is read.
+/// A sheet or a page, and how it is read.
 #[derive(Clone)]
 pub struct Given {
     pub bytes: Vec<u8>,

@@ -21,6 +21,8 @@ struct ProgramId {
 #[link(name = "zvbi")]
 extern "C" {
     static _vbi_hamm8_inv: [i8; 256];
+    fn vbi_ham24p(bytes: *mut u8, value: c_uint);
+    fn vbi_unham24p(bytes: *const u8) -> c_int;
     fn vbi_decode_teletext_8302_pdc(pid: *mut ProgramId, buffer: *const u8) -> c_int;
     // time_t is 64 bits wide on every system that the tests run on
     fn vbi_pil_lto_validity_window(begin: *mut i64, end: *mut i64, pil: c_uint, start: i64, seconds_east: c_int) -> c_int;
@@ -30,6 +32,21 @@ extern "C" {
 pub fn unham8(b: u8) -> Option<u8> {
     let v = unsafe { _vbi_hamm8_inv[b as usize] };
     u8::try_from(v).ok()
+}
+
+/// The eighteen bits of three bytes; of damaged ones the data bits as they stand, as libzvbi has them beside its sign.
+pub fn unham24(bytes: [u8; 3]) -> Result<u32, u32> {
+    match unsafe { vbi_unham24p(bytes.as_ptr()) } {
+        value @ 0.. => Ok(value as u32),
+        damaged => Err((damaged & i32::MAX) as u32),
+    }
+}
+
+/// The three bytes of eighteen bits.
+pub fn ham24(value: u32) -> [u8; 3] {
+    let mut bytes = [0; 3];
+    unsafe { vbi_ham24p(bytes.as_mut_ptr(), value) };
+    bytes
 }
 
 /// What libzvbi gives of a label: it has neither the spare bit nor the designation.

@@ -1,13 +1,13 @@
 //! The programs come to an end whatever they read, and tell what they could not read or write.
 use against_the_world::command::{ended, file, WHOLE};
-use against_the_world::program::{Given, Program, AERIAL, PLAY};
-use independent::teaching;
+use against_the_world::program::{Given, Program, AERIAL, PAGES, PLAY};
+use std::fs;
 use std::sync::Mutex;
 
 /// The longest sheet, and one byte that is left over.
 const DECIDING: usize = 1 + 255 * 6 + 2 + 65_535 * 47 + 1;
 
-const PROGRAMS: [Program; 2] = [PLAY, AERIAL];
+const PROGRAMS: [Program; 3] = [PLAY, AERIAL, PAGES];
 
 /// What a program says of input and of output.
 fn input(program: Program, why: &str) -> String {
@@ -18,7 +18,20 @@ fn output(program: Program, why: &str) -> String {
     format!("{}: the output could not be written: {why}\n", program.name)
 }
 
-/// `./play` or `./aerial` is run once at a time: each run looks first whether its program is built.
+fn example(program: Program) -> Vec<u8> {
+    fs::read(file(program.example)).unwrap()
+}
+
+/// What is told of input whose end was not seen: a sheet as far as it came, and then as short input. Of a page nothing, since it would be
+/// another page where it is cut after a packet.
+fn unseen(program: Program, came: &[u8]) -> String {
+    if program.name == PAGES.name {
+        return String::new();
+    }
+    (program.expected)(came).replace('Z', "X")
+}
+
+/// `./play`, `./aerial` or `./pages` is run once at a time: each run looks first whether its program is built.
 static ONE: Mutex<()> = Mutex::new(());
 
 /// A line of shell in the repository, with `./it` for the program, ends within a minute, with this status, and prints and says this.
@@ -37,6 +50,7 @@ fn ends(program: Program, line: &str, status: i32, printed: &str, said: &str) {
 fn zeros_without_end() {
     ends(PLAY, "./it </dev/zero", 0, "X 0\n", "");
     ends(AERIAL, "./it </dev/zero", 0, "X\n", "");
+    ends(PAGES, "./it </dev/zero", 0, "R 21\n", "");
 }
 
 #[test]
@@ -50,23 +64,32 @@ fn other_bytes_without_end() {
 #[test]
 fn packets_of_zeros_without_end() {
     let sheet = [&[0, 255, 255][..], &[0; 65_535 * 47 + 1]].concat();
-    for it in PROGRAMS {
+    for it in [PLAY, AERIAL] {
         ends(it, r"{ printf '\0\377\377'; cat /dev/zero; } | ./it", 0, &(it.expected)(&sheet), "");
     }
     assert_eq!((AERIAL.expected)(&sheet), "A 0 0 0 0 65535\nX\n");
 }
 
+/// A page is decided by its seventeenth packet: zeros behind its first are damaged, and another first is out of turn.
+#[test]
+fn pages_without_end() {
+    let line = format!("{{ cat {}; cat /dev/zero; }} | ./it", PAGES.example);
+    ends(PAGES, &line, 0, "R 21\n", "");
+    let line = format!("while cat {}; do :; done 2>/dev/null | ./it", PAGES.example);
+    ends(PAGES, &line, 0, "R 18\n", "");
+}
+
 #[test]
 fn a_directory() {
     for it in PROGRAMS {
-        ends(it, "./it sheets", 1, &(it.expected)(&[]), &input(it, "Is a directory"));
+        ends(it, "./it sheets", 1, &unseen(it, &[]), &input(it, "Is a directory"));
     }
 }
 
 #[test]
 fn a_closed_output() {
     for it in PROGRAMS {
-        ends(it, "./it sheets/whole_case.sheet >&-", 1, "", &output(it, "Bad file descriptor"));
+        ends(it, &format!("./it {} >&-", it.example), 1, "", &output(it, "Bad file descriptor"));
     }
 }
 
@@ -75,20 +98,20 @@ fn a_closed_output() {
 fn a_full_disc() {
     for it in PROGRAMS {
         let said = output(it, "No space left on device");
-        ends(it, "./it sheets/whole_case.sheet >/dev/full", 1, "", &said);
+        ends(it, &format!("./it {} >/dev/full", it.example), 1, "", &said);
         ends(it, r"tr '\0' '\377' </dev/zero | ./it >/dev/full", 1, "", &said);
     }
 }
 
-/// Wherever a read fails, what came before it is taken as short input: a whole sheet, too, since its end was not seen.
+/// Wherever a read fails, a whole input too, since its end was not seen.
 #[test]
 fn a_read_that_fails_after_every_byte() {
-    let whole = teaching::lessons()[0].sheet();
-    let cuts: Vec<&[u8]> = (0..=whole.len()).map(|n| &whole[..n]).collect();
-    let given: Vec<Given> = cuts.iter().map(|cut| Given { error: 5, ..Given::whole(cut.to_vec()) }).collect();
     for it in PROGRAMS {
+        let whole = example(it);
+        let cuts: Vec<&[u8]> = (0..=whole.len()).map(|n| &whole[..n]).collect();
+        let given: Vec<Given> = cuts.iter().map(|cut| Given { error: 5, ..Given::whole(cut.to_vec()) }).collect();
         let (printed, said) = it.told(&given);
-        let expected: Vec<String> = cuts.iter().map(|cut| (it.expected)(cut).replace('Z', "X")).collect();
+        let expected: Vec<String> = cuts.iter().map(|cut| unseen(it, cut)).collect();
         assert_eq!(printed, expected);
         assert_eq!(said, input(it, "Input/output error").repeat(cuts.len()));
     }
@@ -97,14 +120,14 @@ fn a_read_that_fails_after_every_byte() {
 /// A read that is interrupted is tried again, up to a thousand times.
 #[test]
 fn reads_that_are_interrupted() {
-    let whole = teaching::lessons()[0].sheet();
-    let given = |interrupted| Given { interrupted, at_most: 13, ..Given::whole(whole.clone()) };
     for it in PROGRAMS {
+        let whole = example(it);
+        let given = |interrupted| Given { interrupted, at_most: 13, ..Given::whole(whole.clone()) };
         let (printed, said) = it.told(&[given(1), given(2), given(999)]);
         assert_eq!(printed, vec![(it.expected)(&whole); 3]);
         assert_eq!(said, "");
         let (printed, said) = it.told(&[given(1000)]);
-        assert_eq!(printed, [(it.expected)(&[])]);
+        assert_eq!(printed, [unseen(it, &[])]);
         assert_eq!(said, input(it, "Interrupted system call"));
     }
 }

@@ -1,7 +1,7 @@
-//! The teaching sheets are what they say, and the compiled programs print for each what its class expects.
+//! The teaching sheets and the stored pages are what they say, and the compiled programs print for each what its class expects.
 use against_the_world::command::file;
-use against_the_world::program::{Program, AERIAL, PLAY};
-use independent::teaching;
+use against_the_world::program::{Program, AERIAL, PAGES, PLAY};
+use independent::{examples, teaching};
 use std::fs;
 
 /// Every sheet's stored output of that ending is what the independent side and the compiled program print.
@@ -43,4 +43,24 @@ fn the_bad_aerial_is_the_other_programs_own() {
     let lesson = |kind: &str| fs::read(file(&format!("sheets/a_bad_aerial.{kind}"))).unwrap();
     assert_eq!(fs::read(file("crates/aerial/stdin")).unwrap(), lesson("sheet"));
     assert_eq!(fs::read(file("crates/aerial/stdout")).unwrap(), lesson("aerial"));
+}
+
+#[test]
+fn every_stored_page() {
+    let page = fs::read_to_string(file("pages.d/README.md")).unwrap();
+    for example in examples::examples() {
+        let stored = |kind: &str| fs::read(file(&format!("pages.d/{}.{kind}", example.name))).unwrap();
+        assert_eq!(stored("page"), example.page, "{}: another page", example.name);
+        assert!(page.contains(example.line), "{}: no line of explanation", example.name);
+        let expected = String::from_utf8(stored("out")).unwrap();
+        assert_eq!((PAGES.expected)(&example.page), expected, "{}: the independent side", example.name);
+        assert_eq!(PAGES.printed(example.page), expected, "{}: the program", example.name);
+    }
+}
+
+#[test]
+fn the_evening_is_the_programs_own() {
+    let stored = |kind: &str| fs::read(file(&format!("pages.d/an_evening.{kind}"))).unwrap();
+    assert_eq!(fs::read(file("crates/pages/stdin")).unwrap(), stored("page"));
+    assert_eq!(fs::read(file("crates/pages/stdout")).unwrap(), stored("out"));
 }

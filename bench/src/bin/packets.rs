@@ -1,8 +1,8 @@
 //! Times the reading of a packet: ours, libzvbi's, and the ordinary desk's. `packets` prints nanoseconds, a line for each kind of
 //! packet; `packets KIND READER COUNT` only reads, for a counter of instructions.
+use bench::turns;
 use independent::{paper, random};
 use std::os::raw::{c_int, c_uint, c_void};
-use std::time::Instant;
 
 extern "C" {
     fn probe_read(bytes: *const u8, length: usize, out: *mut u8, room: usize) -> u8;
@@ -102,28 +102,9 @@ fn main() {
             let taken = [bench.ours(p), bench.libzvbi(p), bench.rust(p)];
             assert!(taken.iter().all(|&t| t == paper::read(p).is_ok()), "{taken:?} of {p:02X?}");
         }
-        // in turn, so that whatever else the machine does falls on all three
-        let mut times = [(); 3].map(|_| Vec::new());
-        for _ in 0..15 {
-            for (reader, times) in READERS.iter().zip(&mut times) {
-                let mut count = PACKETS;
-                let spent = loop {
-                    let from = Instant::now();
-                    bench.read(reader, &packets, count);
-                    let spent = from.elapsed();
-                    if spent.as_millis() >= 10 {
-                        break spent;
-                    }
-                    count *= 4;
-                };
-                times.push(spent.as_nanos() as f64 / count as f64);
-            }
-        }
-        print!("{kind}");
-        for times in &mut times {
-            times.sort_by(f64::total_cmp);
-            print!(" {:.1}", times[times.len() / 2]);
-        }
-        println!();
+        let times = turns::medians(READERS.len(), PACKETS, |reader, count| {
+            bench.read(READERS[reader], &packets, count);
+        });
+        println!("{kind}{}", times.iter().map(|time| format!(" {time:.1}")).collect::<String>());
     }
 }

@@ -4,37 +4,12 @@ use independent::calls::{self, Call};
 use independent::desk::{Desk, Pace};
 use independent::faults::Fault;
 use independent::{sheet, sheets};
+use made::Made;
+
+mod made;
 
 /// So many sheets must catch a fault, among those that the compiled program plays.
 const CATCHES: usize = 5;
-
-/// What was made, with what the faultless desk says to it. Most faults show early, so no more is made than is looked at.
-struct Made<T, F: Fn(u64) -> (T, String)> {
-    make: F,
-    made: Vec<(T, String)>,
-}
-
-impl<T, F: Fn(u64) -> (T, String)> Made<T, F> {
-    fn new(make: F) -> Made<T, F> {
-        Made { make, made: Vec::new() }
-    }
-
-    /// How many of the first ones another desk says something else to, up to a number that is enough.
-    fn differ<P: Fn(&T) -> String>(&mut self, enough: usize, other: P) -> usize {
-        let mut caught = 0;
-        for n in 0..sheets::SHEETS {
-            if caught == enough {
-                break;
-            }
-            if n as usize == self.made.len() {
-                self.made.push((self.make)(n));
-            }
-            let (input, said) = &self.made[n as usize];
-            caught += (other(input) != *said) as usize;
-        }
-        caught
-    }
-}
 
 fn sheet_with_print(seed: u64) -> (Vec<u8>, String) {
     let bytes = sheets::sheet(seed);
@@ -50,7 +25,7 @@ fn calls_with_answers(seed: u64) -> (Vec<Call>, String) {
 
 /// How many sheets, and how many rows of calls, catch a fault.
 fn caught(enough: usize, mut tell: impl FnMut(Fault, usize, usize)) {
-    let (mut sheets, mut rows) = (Made::new(sheet_with_print), Made::new(calls_with_answers));
+    let (mut sheets, mut rows) = (Made::new(sheets::SHEETS, sheet_with_print), Made::new(sheets::SHEETS, calls_with_answers));
     for &fault in Fault::ALL {
         let by_sheets = if fault.needs_calls() { 0 } else { sheets.differ(enough, |bytes| sheet::play_with(bytes, Some(fault))) };
         let by_calls = if fault.needs_sheets() {

@@ -1,22 +1,64 @@
-//! Writes the sheets of `sheets/`, with what the independent side prints for each:
+//! Writes the sheets of `sheets/` and the pages of `pages.d/`, with what the independent side prints for each:
 //! `tools/cargo --own run --manifest-path tests/independent/Cargo.toml`.
-use independent::{aerial, sheet, teaching};
+use independent::{aerial, examples, preselection, sheet, teaching};
 use std::{fs, path::Path};
 
-fn main() {
-    let dir = Path::new(env!("CARGO_MANIFEST_DIR")).join("../../sheets");
+const SHEETS: &str = "\
+# Sheets
+
+Each `NAME.sheet` is played by `./play sheets/NAME.sheet`, and prints `NAME.out`; `./aerial sheets/NAME.sheet` tells how
+well each tuner heard it, and prints `NAME.aerial`. What they hold is written out in `tests/independent/src/teaching.rs`.
+
+| sheet | what it shows |
+|---|---|
+";
+
+const PAGES: &str = "\
+# Pages
+
+Each `NAME.page` has the packets X/26 of one guide page, 42 bytes each; `./pages pages.d/NAME.page` prints `NAME.out`. What they
+hold is written out in `tests/independent/src/examples.rs`.
+
+A line `G row column day month hour minute finish country source offset flag series` is a programme. Its finish is `-`, `h:m` for a
+time or `+h:m` for a duration; the offset is in quarters of an hour, with `-` west of Greenwich; flag 1 is controlled access; the
+series is `-` or its code. `Z` and the count of programmes close a page. A refused page is `R` and its number alone.
+
+| page | what it shows |
+|---|---|
+";
+
+/// Writes the files of a directory at the top, and its page behind these lines.
+fn directory(name: &str, head: &str, rows: Vec<(&str, &str)>, files: Vec<(String, Vec<u8>)>) {
+    let dir = Path::new(env!("CARGO_MANIFEST_DIR")).join("../..").join(name);
     fs::create_dir_all(&dir).unwrap();
-    let mut page = String::from(
-        "# Sheets\n\nEach `NAME.sheet` is played by `./play sheets/NAME.sheet`, and prints `NAME.out`; `./aerial sheets/NAME.sheet` tells how\n\
-         well each tuner heard it, and prints `NAME.aerial`. What they hold is written out in `tests/independent/src/teaching.rs`.\n\n\
-         | sheet | what it shows |\n|---|---|\n",
-    );
-    for lesson in teaching::lessons() {
+    files.into_iter().for_each(|(file, bytes)| fs::write(dir.join(file), bytes).unwrap());
+    let rows: String = rows.into_iter().map(|(name, line)| format!("| `{name}` | {line} |\n")).collect();
+    fs::write(dir.join("README.md"), String::from(head) + &rows).unwrap();
+}
+
+fn sheets() {
+    let lessons = teaching::lessons();
+    let mut files = Vec::new();
+    for lesson in &lessons {
         let bytes = lesson.sheet();
-        fs::write(dir.join(format!("{}.sheet", lesson.name)), &bytes).unwrap();
-        fs::write(dir.join(format!("{}.out", lesson.name)), sheet::play(&bytes)).unwrap();
-        fs::write(dir.join(format!("{}.aerial", lesson.name)), aerial::print(&bytes)).unwrap();
-        page += &format!("| `{}` | {} |\n", lesson.name, lesson.line);
+        files.push((format!("{}.out", lesson.name), sheet::play(&bytes).into_bytes()));
+        files.push((format!("{}.aerial", lesson.name), aerial::print(&bytes).into_bytes()));
+        files.push((format!("{}.sheet", lesson.name), bytes));
     }
-    fs::write(dir.join("README.md"), page).unwrap();
+    directory("sheets", SHEETS, lessons.iter().map(|lesson| (lesson.name, lesson.line)).collect(), files);
+}
+
+fn pages() {
+    let examples = examples::examples();
+    let mut files = Vec::new();
+    for example in &examples {
+        files.push((format!("{}.out", example.name), preselection::print(&example.page).into_bytes()));
+        files.push((format!("{}.page", example.name), example.page.clone()));
+    }
+    directory("pages.d", PAGES, examples.iter().map(|example| (example.name, example.line)).collect(), files);
+}
+
+fn main() {
+    sheets();
+    pages();
 }
