@@ -1,7 +1,7 @@
 -- Words about the elements of a list.
 use Prim.Native.Nat.{ℕ, _+_}
 use mathlib.Core.Bool.{Bool, false, cond, _||_}
-use mathlib.Core.List.{List, [], _∷_}
+use mathlib.Core.List.{List, [], _∷_, _++_}
 use lib.Dec.{eqb}
 
 -- some element passes the test
@@ -18,3 +18,8 @@ member i (j ∷ js) = eqb i j || member i js
 abbrev pub count : {A : Type 0} → (A → Bool) → List A → ℕ
 count f [] = 0
 count f (x ∷ xs) = cond (f x) 1 0 + count f xs
+
+-- pieces put together
+abbrev pub joined : List (List ℕ) → List ℕ
+joined [] = []
+joined (p ∷ ps) = p ++ joined ps

@@ -10,13 +10,14 @@ use lib.Dec.{eqb, eqb·suc-zero}
 use lib.ListN.{length, take, length-append, length-set}
 use lib.Seq.{append-snoc, length-take-le, take-append-seam, drop-append-seam, take-suc-set}
 use Rattle.answer.specs.Bytes.{numberOf}
+use Rattle.answer.specs.Lists.{joined}
 use Rattle.answer.proofs.Every.{no-way}
 use Rattle.items.specs.declared.Stage.{Stage}
 use Rattle.items.specs.declared.Stage.the-variants.{TimerCount, Timers, PacketCount, Packets, Complete, LeftOver}
 use Rattle.items.specs.declared.Split.{Split}
 use Rattle.items.specs.Items.{Item, timer, packet, Contents, noMore, onto, Next, short, item, next, ended, onPacket, packetsFrom, onPacketCount, onTimer, timersFrom, onTimerCount, itemsOf}
 use Rattle.items.specs.Pieces.{need, timersLeft, packetsLeft, stageAfter, foundAt, itemsFound, holding, isWhole, itemOf, afterItem, afterByte, byteItems, splitAfter, pieceItems, mayEnd, leftOver, unsplit}
-use Rattle.items.specs.Laws.{joined, found}
+use Rattle.items.specs.Laws.{found}
 
 pub onto-onto : (is js : List Item) (c : Contents) → onto (is ++ js) c ≡ onto is (onto js c)
 onto-onto is js c = ap (λ (ks : List Item). record { items = ks; whole = c .whole }) (append-assoc is js (c .items))

@@ -5,16 +5,11 @@ use mathlib.Core.Path.{_≡_}
 use mathlib.Core.List.{List, [], _∷_, _++_}
 use lib.ListN.{length, drop, getD}
 use Rattle.answer.specs.Answer.{Unique}
-use Rattle.answer.specs.Lists.{count}
+use Rattle.answer.specs.Lists.{count, joined}
 use Rattle.items.specs.declared.Split.{Split}
 use Rattle.items.specs.declared.Taken.{Taken}
 use Rattle.items.specs.Items.{Item, timer, packet, Contents, noMore, onto, itemsOf}
 use Rattle.items.specs.Pieces.{itemsFound, unsplit, splitAfter, pieceItems, takenFrom, wholeAt, leftOver, longestSheet, decidingAfter}
-
--- pieces of input, put together
-abbrev pub joined : List (List ℕ) → List ℕ
-joined [] = []
-joined (p ∷ ps) = p ++ joined ps
 
 -- the items of pieces one after the other, from what is held on, and then the input's end
 abbrev pub found : List (List ℕ) → Split → Contents

@@ -13,7 +13,8 @@ use Rattle.programmes.proofs.Proved.{laws}
 use Rattle.listing.specs.declared.Collected.{Collected}
 use Rattle.listing.specs.Listing.{listing, listingOf}
 use Rattle.listing.specs.Pieces.{deciding, heldIn, held, kept, afterPiece, blank, isFull, endTold}
-use Rattle.listing.specs.Laws.{joined, printed}
+use Rattle.answer.specs.Lists.{joined}
+use Rattle.listing.specs.Laws.{printed}
 use Rattle.listing.proofs.Keeping.{held-more, held-few}
 
 -- some bytes, cut, and then others, are cut as all of them

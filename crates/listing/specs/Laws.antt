@@ -2,17 +2,13 @@
 use Prim.Native.Nat.{ℕ, _≤_}
 use mathlib.Core.Bool.{Bool, true}
 use mathlib.Core.Path.{_≡_}
-use mathlib.Core.List.{List, [], _∷_, _++_}
+use mathlib.Core.List.{List, [], _∷_}
 use lib.ListN.{length}
 use Rattle.answer.specs.Answer.{Unique}
+use Rattle.answer.specs.Lists.{joined}
 use Rattle.listing.specs.declared.Collected.{Collected}
 use Rattle.listing.specs.Listing.{listingOf}
-use Rattle.listing.specs.Pieces.{deciding, blank, afterPiece, isFull, endTold, longest, reportedBy, outAfter}
-
--- pieces put together
-abbrev pub joined : List (List ℕ) → List ℕ
-joined [] = []
-joined (p ∷ ps) = p ++ joined ps
+use Rattle.listing.specs.Pieces.{blank, afterPiece, isFull, endTold, longest, reportedBy, outAfter}
 
 -- what is printed after pieces, from what is collected on, and then the input's end
 abbrev pub printed : List (List ℕ) → Collected → List ℕ

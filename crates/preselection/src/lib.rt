@@ -78,7 +78,7 @@ pub fn write(magazine: u8, page: Page, buf: &mut [u8]) -> Written
     while i < 42 * packets {
         let k = i / 42;
         let j = i % 42;
-        let at = writer::triplet_at(k, j);
+        let at = writer::triplet_number(k, j);
         buf[i] = writer::byte_in(magazine, k, j, bits[at]);
         i += 1;
     }

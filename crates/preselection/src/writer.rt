@@ -8,7 +8,7 @@ use hamming::good_byte;
 use triplet::good_word;
 
 // 'And 13 groups of 3 bytes': the triplet of the page that has byte j of packet k, where it is past the first three.
-pub(crate) fn triplet_at(k: usize, j: usize) -> usize
+pub(crate) fn triplet_number(k: usize, j: usize) -> usize
     requires { ⌜ (k < 16) × (j < 42) ⌝ }
     ensures { λ r. ⌜ r ≡ 13 * k + (j - 3) / 3 ⌝ }
 {

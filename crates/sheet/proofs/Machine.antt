@@ -7,7 +7,8 @@ use Rattle.desk.specs.declared.Desk.{Desk}
 use Rattle.desk.specs.Moments.{fresh}
 use Rattle.items.specs.Items.{Item, Contents}
 use Rattle.items.specs.Pieces.{splitAfter, pieceItems, leftOver}
-use Rattle.items.specs.Laws.{joined, found}
+use Rattle.answer.specs.Lists.{joined}
+use Rattle.items.specs.Laws.{found}
 use Rattle.items.proofs.Machine as split
 use Rattle.sheet.specs.declared.Sheet.{Sheet}
 use Rattle.sheet.specs.Sheet.{brokenLine, itemTold, itemLeft, linesOf, deskLeft, lastLine, sheetOf}

@@ -5,12 +5,12 @@ use mathlib.Core.Path.{_≡_}
 use mathlib.Core.List.{List, [], _∷_, _++_}
 use lib.ListN.{length}
 use Rattle.answer.specs.Answer.{Unique, number, given}
+use Rattle.answer.specs.Lists.{joined}
 use Rattle.matching.specs.declared.Booking.{Booking}
 use Rattle.desk.specs.declared.Desk.{Desk}
 use Rattle.desk.specs.Calls.{Told, packetOf, addOf}
 use Rattle.desk.specs.Moments.{liveCount}
 use Rattle.items.specs.Pieces.{leftOver}
-use Rattle.items.specs.Laws.{joined}
 use Rattle.sheet.specs.declared.Sheet.{Sheet}
 use Rattle.sheet.specs.declared.Fed.{Fed}
 use Rattle.sheet.specs.declared.Closed.{Closed}

@@ -5,10 +5,10 @@ use mathlib.Core.Bool.{Bool, true, false}
 use mathlib.Core.List.{List, [], _∷_, _++_}
 use native.Mathlib.Omega.{arith}
 use lib.ListN.{getD, replicate}
-use Rattle.answer.specs.Lists.{count}
+use Rattle.answer.specs.Lists.{count, joined}
 use Rattle.items.specs.Items.{Item, Contents, itemsOf}
 use Rattle.items.specs.Pieces.{splitAfter, pieceItems, leftOver}
-use Rattle.items.specs.Laws.{joined, found, isPacket}
+use Rattle.items.specs.Laws.{found, isPacket}
 use Rattle.items.proofs.Machine as split
 use Rattle.items.proofs.Longest.{few-packets}
 use Rattle.report.specs.declared.Tuner.{Tuner}

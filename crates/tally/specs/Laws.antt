@@ -5,9 +5,9 @@ use mathlib.Core.Path.{_≡_}
 use mathlib.Core.List.{List, [], _∷_}
 use lib.ListN.{length, getD}
 use Rattle.answer.specs.Answer.{Unique}
+use Rattle.answer.specs.Lists.{joined}
 use Rattle.items.specs.Items.{Item, itemsOf}
 use Rattle.items.specs.Pieces.{leftOver}
-use Rattle.items.specs.Laws.{joined}
 use Rattle.report.specs.Report.{silence, report}
 use Rattle.report.specs.Room.{longest}
 use Rattle.tally.specs.declared.Tally.{Tally}

@@ -82,11 +82,11 @@ mul-loop c = let f = fit (c .before .before) in record { fits = omega (arith, f 
 inside : (c : tie.In-loop Inv-loop μ-loop) → c .before .loop .i < 672
 inside c = let f = fit (c .before .before .before) in omega (arith, f .2)
 
-triplet-inside : (c : tie.After-triplet-at Inv-loop μ-loop) → c .triplet-at .result < room
-triplet-inside c = let h = inside (c .before) in omega (arith, c .triplet-at .ensures)
+triplet-inside : (c : tie.After-triplet-number Inv-loop μ-loop) → c .triplet-number .result < room
+triplet-inside c = let h = inside (c .before) in omega (arith, c .triplet-number .ensures)
 
-triplet-at-requires : tie.Need-triplet-at-requires Inv-loop μ-loop
-triplet-at-requires c κs = let h = inside c in (omega arith, omega arith)
+triplet-number-requires : tie.Need-triplet-number-requires Inv-loop μ-loop
+triplet-number-requires c κs = let h = inside c in (omega arith, omega arith)
 
 mul-byte-in : tie.Need-mul-byte-in Inv-loop μ-loop
 mul-byte-in c = let h = triplet-inside c in record { fits = omega arith }
@@ -102,8 +102,8 @@ byte-in-requires c κs =
     let f = fit test in
     let h = inside (c .before) in
     let none = sym (test .before .any-outside .ensures) ∙ f .1 in
-    let small = bits-small qs (c .triplet-at .result) none in
-    let same = bits-are words (c .triplet-at .result) (triplet-inside c) in
+    let small = bits-small qs (c .triplet-number .result) none in
+    let same = bits-are words (c .triplet-number .result) (triplet-inside c) in
     (omega (arith, f .0), omega arith, omega (arith, small, same))
 
 slice-write-buf : tie.Need-slice-write-buf Inv-loop μ-loop
@@ -123,7 +123,7 @@ loop-again c =
       λ gs h.
           bytes-more _ gs i _ (inv .2 gs h)
           (c .byte-in .ensures gs
-          (ap (bitsAt gs) (sym (at .triplet-at .ensures)) ∙ sym (h (at .triplet-at .result) (triplet-inside at)))),
+          (ap (bitsAt gs) (sym (at .triplet-number .ensures)) ∙ sym (h (at .triplet-number .result) (triplet-inside at)))),
     )
 
 cast-packets : tie.Need-cast-t24 Inv-loop μ-loop
@@ -160,7 +160,7 @@ write-spec =
     returns-2
     loop-holds
     mul-loop
-    triplet-at-requires
+    triplet-number-requires
     mul-byte-in
     array-read-byte-in
     byte-in-requires

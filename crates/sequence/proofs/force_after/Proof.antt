@@ -4,33 +4,6 @@ use Rattle.programmes.specs.Meaning.{inForce}
 use Rattle.sequence.proofs.force_after.Statement.{statement}
 use Rattle.sequence.proofs.force_after.Tie as tie
 
-enum-told : tie.Need-enum-told
-enum-told c = search needs
-
-enum-known-g : tie.Need-enum-known-g
-enum-known-g c = search needs
-
-enum-known-g-2 : tie.Need-enum-known-g-2
-enum-known-g-2 c = search needs
-
-enum-known-g-3 : tie.Need-enum-known-g-3
-enum-known-g-3 c = search needs
-
-enum-told-2 : tie.Need-enum-told-2
-enum-told-2 c = search needs
-
-enum-told-3 : tie.Need-enum-told-3
-enum-told-3 c = search needs
-
-enum-told-4 : tie.Need-enum-told-4
-enum-told-4 c = search needs
-
-enum-told-5 : tie.Need-enum-told-5
-enum-told-5 c = search needs
-
-enum-told-6 : tie.Need-enum-told-6
-enum-told-6 c = search needs
-
 returns : tie.Need-returns
 unfolding inForce
 returns c = search needs
@@ -71,15 +44,15 @@ pub force-after-spec : {M : Type 1} → statement M
 force-after-spec =
     tie.close
     (tie.spec
-    enum-told
-    enum-known-g
-    enum-known-g-2
-    enum-known-g-3
-    enum-told-2
-    enum-told-3
-    enum-told-4
-    enum-told-5
-    enum-told-6
+    (λ c. search needs)
+    (λ c. search needs)
+    (λ c. search needs)
+    (λ c. search needs)
+    (λ c. search needs)
+    (λ c. search needs)
+    (λ c. search needs)
+    (λ c. search needs)
+    (λ c. search needs)
     returns
     returns-2
     returns-3

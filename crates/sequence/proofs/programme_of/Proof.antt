@@ -1,10 +1,10 @@
 -- `programme_of`: the programme of a pair, with neither finish nor series yet.
-use borrow.Author.Needs.{needs}
+use mathlib.Core.Path.{refl}
 use Rattle.sequence.proofs.programme_of.Statement.{statement}
 use Rattle.sequence.proofs.programme_of.Tie as tie
 
 returns : tie.Need-returns
-returns c = search needs
+returns c = refl
 
 pub programme-of-spec : {M : Type 1} → statement M
 programme-of-spec = tie.close (tie.spec returns)

@@ -8,36 +8,6 @@ returns : tie.Need-returns
 unfolding changeBy
 returns c = search needs
 
-enum-told : tie.Need-enum-told
-enum-told c = search needs
-
-enum-told-2 : tie.Need-enum-told-2
-enum-told-2 c = search needs
-
-enum-told-3 : tie.Need-enum-told-3
-enum-told-3 c = search needs
-
-enum-told-4 : tie.Need-enum-told-4
-enum-told-4 c = search needs
-
-enum-told-5 : tie.Need-enum-told-5
-enum-told-5 c = search needs
-
-enum-known-g : tie.Need-enum-known-g
-enum-known-g c = search needs
-
-pair-requires : tie.Need-pair-requires
-pair-requires c κs = search needs
-
-enum-told-6 : tie.Need-enum-told-6
-enum-told-6 c = search needs
-
-enum-known-g-2 : tie.Need-enum-known-g-2
-enum-known-g-2 c = search needs
-
-enum-told-7 : tie.Need-enum-told-7
-enum-told-7 c = search needs
-
 returns-2 : tie.Need-returns-2
 unfolding changeBy
 returns-2 c = search needs
@@ -83,16 +53,16 @@ change-spec =
     tie.close
     (tie.spec
     returns
-    enum-told
-    enum-told-2
-    enum-told-3
-    enum-told-4
-    enum-told-5
-    enum-known-g
-    pair-requires
-    enum-told-6
-    enum-known-g-2
-    enum-told-7
+    (λ c. search needs)
+    (λ c. search needs)
+    (λ c. search needs)
+    (λ c. search needs)
+    (λ c. search needs)
+    (λ c. search needs)
+    (λ c κs. search needs)
+    (λ c. search needs)
+    (λ c. search needs)
+    (λ c. search needs)
     returns-2
     returns-3
     returns-4
