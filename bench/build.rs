@@ -1,4 +1,4 @@
-//! Only the programs that time packets and triplets link the archive of `rt staticlib probe` and libzvbi: the others build without
+//! Only the programs that time bytes, packets and triplets link the archive of `rt staticlib probe` and libzvbi: the others build without
 //! them.
 use std::path::Path;
 
@@ -7,7 +7,7 @@ fn main() {
     let probe = Path::new(&here).join("../target/staticlib/libprobe.a");
     println!("cargo:rerun-if-changed=build.rs");
     println!("cargo:rerun-if-changed={}", probe.display());
-    for bin in ["packets", "triplets"] {
+    for bin in ["bytes", "packets", "triplets"] {
         println!("cargo:rustc-link-arg-bin={bin}={}", probe.display());
         println!("cargo:rustc-link-arg-bin={bin}=-lzvbi");
     }

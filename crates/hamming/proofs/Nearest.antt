@@ -39,7 +39,7 @@ module _ (f : ℕ → ℕ) where
           (λ t. let l = leb-false (f v) m t in let e : min (f v) m ≡ m = omega arith in rw e (rw k (or-true (eqb (f v) m))))
 
 -- ── the value that is found ────────────────────────────────────────────────────────────────────────────────────────
-abbrev Found : ℕ → ℕ → ℕ → Type 0
+abbrev pub Found : ℕ → ℕ → ℕ → Type 0
 Found b d v = (v < 16) × (distance b (good v) ≡ d)
 
 first-at : (b d : ℕ) (vs : List ℕ) → All (λ v. v < 16) vs → Among (λ v. distance b (good v)) d vs → Found b d (firstAt b d vs)
@@ -51,13 +51,13 @@ first-at b d (v ∷ vs) a e = go (eqb (distance b (good v)) d) refl e (first-at 
     go true h k r = (a .0, eqb-true (distance b (good v)) d h)
     go false h k r = r k
 
-nearest-at : (b : ℕ) → Found b (away b) (nearest b)
+pub nearest-at : (b : ℕ) → Found b (away b) (nearest b)
 unfolding nearest away
 nearest-at b =
     first-at b (away b) values (tested (λ v. ltb v 16) (λ v e. ltb-true v 16 e) values refl)
     (least-one (λ v. distance b (good v)) 0 (1 ∷ 2 ∷ 3 ∷ 4 ∷ 5 ∷ 6 ∷ 7 ∷ 8 ∷ 9 ∷ 10 ∷ 11 ∷ 12 ∷ 13 ∷ 14 ∷ 15 ∷ []))
 
-passes : (t : Bool) → T t → t ≡ true
+pub passes : (t : Bool) → T t → t ≡ true
 passes true h = refl
 passes false h = absurd h
 

@@ -1,9 +1,10 @@
 // One Hamming 8/4 byte: what it carries, and what a value is sent as.
 ghost use mathlib.Core.Path.{_≡_};
 ghost use mathlib.Core.Bool.{true};
-ghost use Prim.Native.Nat.{_%_};
-ghost use lib.Dec.{leb};
-ghost use Rattle.hamming.specs.Byte.{good, distance, nibbleOf, codedAnswer, codingOf};
+ghost use Prim.Native.Nat.{_+_, _*_, _/_, _%_, _<_};
+ghost use lib.Bits.{bitAnd};
+ghost use lib.Count.{ones};
+ghost use Rattle.hamming.specs.Byte.{D, good, nibbleOf, codedAnswer, codingOf};
 ghost use Rattle.hamming.specs.Laws.{Laws};
 
 pub enum Nibble {
@@ -17,64 +18,98 @@ pub enum Coded {
     Byte(u8),
 }
 
-// The good bytes of the values 0 to 15.
-const GOOD: [u8; 16] = [
-    0x15,
-    0x02,
-    0x49,
-    0x5E,
-    0x64,
-    0x73,
-    0x38,
-    0x2F,
-    0xD0,
-    0xC7,
-    0x8C,
-    0x9B,
-    0xA1,
-    0xB6,
-    0xFD,
-    0xEA,
-];
+// The bits of a byte, the lowest first: P1 D1 P2 D2 P3 D3 P4 D4.
+const P1: u8 = 0x01;
 
-// What one wrong bit can do to a byte's own data bits: nothing, or one of the four.
-const FLIPS: [u8; 5] = [0, 1, 2, 4, 8];
+const D1: u8 = 0x02;
+
+const P2: u8 = 0x04;
+
+const D2: u8 = 0x08;
+
+const P3: u8 = 0x10;
+
+const D3: u8 = 0x20;
+
+const P4: u8 = 0x40;
+
+const D4: u8 = 0x80;
+
+// The bits that each check counts, a parity bit and those of its equation: in a good byte they are odd in number.
+// P1 = 1+D1+D3+D4
+const CHECK_1: u8 = P1 | D1 | D3 | D4;
+
+// P2 = 1+D1+D2+D4
+const CHECK_2: u8 = P2 | D1 | D2 | D4;
+
+// P3 = 1+D1+D2+D3
+const CHECK_3: u8 = P3 | D1 | D2 | D3;
+
+// P4 = 1+ the seven others, so that this check is the overall one.
+const CHECK_4: u8 = P1 | D1 | P2 | D2 | P3 | D3 | P4 | D4;
+
+// 1 where the ones under a mask are even in number: a check that fails, and the parity bit that makes them odd.
+fn even(b: u8, mask: u8) -> u8
+    ensures { λ r. ⌜ r ≡ (1 + ones (bitAnd b mask)) % 2 ⌝ }
+{
+    ((1 + u8::count_ones(b & mask)) % 2) as u8
+}
 
 // The good byte of the lowest four bits of v.
 pub fn good_byte(v: u8) -> u8
     ensures { λ r. ⌜ r ≡ good (v % 16) ⌝ }
 {
-    GOOD[(v % 16) as usize]
+    let data = v % 2 * D1 + v / 2 % 2 * D2 + v / 4 % 2 * D3 + v / 8 % 2 * D4;
+    let p1 = even(data, CHECK_1);
+    let p2 = even(data, CHECK_2);
+    let p3 = even(data, CHECK_3);
+    let seven = data + p1 * P1 + p2 * P2 + p3 * P3;
+    let p4 = even(seven, CHECK_4);
+    seven + p4 * P4
 }
 
-fn near(b: u8, v: u8) -> bool
-    ensures { λ r. ⌜ r ≡ leb (distance b (good (v % 16))) 1 ⌝ }
+// The value of a byte's own data bits, D1 the lowest: D1 beside D2 and D3 beside D4, then the two pairs.
+fn data_bits(b: u8) -> u8
+    ensures { λ r. ⌜ r ≡ D 2 b + 2 * D 4 b + 4 * D 6 b + 8 * D 8 b ⌝ }
 {
-    let g = good_byte(v);
-    u8::count_ones(b ^ g) <= 1
+    let pairs = (b & (D1 | D3)) / 2 + (b & (D2 | D4)) / 4;
+    pairs % 4 + pairs / 4
 }
 
-// A byte that is the good byte of its own data bits is clean, which costs one look into the table. The data bits are every other
-// bit, and two steps bring them together.
+// The wrong bit, where one is wrong: of the first three checks it has a part in those that fail, and in no other. A data bit has a
+// part in two or in all three, P1 to P3 in one, P4 in none. Their masks are 0xA3, 0x8E and 0x3A.
+fn wrong_bit(failing: u8) -> u8
+    requires { ⌜ failing < 8 ⌝ }
+    ensures { λ r. ⌜ (ones r ≡ 1) × (ones (bitAnd r 0xA3) ≡ failing % 2) × (ones (bitAnd r 0x8E) ≡ failing / 2 % 2) × (ones (bitAnd r 0x3A) ≡ failing / 4) ⌝ }
+{
+    match failing {
+        0 => P4,
+        1 => P1,
+        2 => P2,
+        3 => D4,
+        4 => P3,
+        5 => D3,
+        6 => D2,
+        7..=255 => D1,
+    }
+}
+
+// One wrong bit makes the overall check fail, two let it hold. In `failing` the first three checks have 1, 2 and 4.
 pub fn decode(b: u8) -> Nibble
     ensures { λ r. ⌜ r ≡ nibbleOf b ⌝ }
 {
-    let pairs = b / 2 & 0x55;
-    let halves = (pairs | pairs / 2) & 0x33;
-    let own = (halves | halves / 4) & 0x0F;
-    let g = good_byte(own);
-    if b == g {
-        return Nibble::Clean(own);
-    }
-    let mut i: usize = 0;
-    while i < 5 {
-        let v = own ^ FLIPS[i];
-        if near(b, v) {
-            return Nibble::Mended(v);
+    let failing = even(b, CHECK_1) + 2 * even(b, CHECK_2) + 4 * even(b, CHECK_3);
+    let overall = even(b, CHECK_4);
+    if overall == 0 {
+        if failing == 0 {
+            let v = data_bits(b);
+            return Nibble::Clean(v);
         }
-        i += 1;
+        return Nibble::Damaged;
     }
-    Nibble::Damaged
+    let wrong = wrong_bit(failing);
+    let v = data_bits(b ^ wrong);
+    Nibble::Mended(v)
 }
 
 pub fn encode(v: u8) -> Coded

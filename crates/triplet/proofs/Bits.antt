@@ -9,24 +9,14 @@ use lib.ListN.{length, getD}
 use lib.Pow.{pow-pos}
 use Rattle.answer.proofs.Every.{All, all-of, map-same}
 use Rattle.hamming.specs.Byte.{D}
+use Rattle.hamming.proofs.Bits.{bit-at, bit-small, shifted}
 use Rattle.triplet.specs.Word.{fromBits, run, bitsAt, onesOf}
 
 -- ── a bit ──────────────────────────────────────────────────────────────────────────────────────────────────────────
-pub bit-at : (j w : ℕ) → D (suc j) w ≡ w / 2 ^ j % 2
-unfolding D
-bit-at j w = let e : suc j - 1 ≡ j = omega arith in rw e
-
 -- bit 0 is bit 1
 bit-from : (n w : ℕ) → D n w ≡ D (suc (n - 1)) w
 unfolding D
 bit-from n w = sym (bit-at (n - 1) w)
-
-pub bit-small : (n w : ℕ) → D n w < 2
-unfolding D
-bit-small n w = omega arith
-
-pub shifted : (j w : ℕ) → w / 2 ^ suc j ≡ w / 2 ^ j / 2
-shifted j w = ap (λ (x : ℕ). w / x) (pow-suc 2 j) ∙ sym (div-div-eq-div-mul w (2 ^ j) 2)
 
 bit-half : (j w : ℕ) → D (suc (suc j)) w ≡ D (suc j) (w / 2)
 bit-half j w =

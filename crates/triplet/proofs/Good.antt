@@ -8,9 +8,10 @@ use lib.ListN.{take, drop}
 use Rattle.answer.specs.Lists.{member}
 use Rattle.answer.proofs.Every.{All, every, tested, listed, map-same}
 use Rattle.hamming.specs.Byte.{D}
+use Rattle.hamming.proofs.Bits.{bit-small}
 use Rattle.triplet.specs.Word.{fromBits, layout, good, run, bitsAt, onesOf, covered, all, odd, checked}
 use Rattle.triplet.specs.Checks.{places, dataOf, five}
-use Rattle.triplet.proofs.Bits.{bit-small, Bits, bits-small, number-small, picked, bits-of, run-bits}
+use Rattle.triplet.proofs.Bits.{Bits, bits-small, number-small, picked, bits-of, run-bits}
 use Rattle.triplet.proofs.Bits.{odd-first, ones-last, odd-last}
 
 -- ── a good word ────────────────────────────────────────────────────────────────────────────────────────────────────

@@ -9,9 +9,9 @@ use borrow.Author.Tests.{eqb-true, eqb-false}
 use lib.Bits.{bitAnd, and-step, and-zero-r}
 use lib.Count.{ones, onesIn, ones-step}
 use lib.Dec.{eqb}
+use Rattle.hamming.proofs.Bits.{bit-at, shifted}
 use Rattle.triplet.specs.Word.{onesAmong}
 use Rattle.triplet.specs.Checks.{wrong}
-use Rattle.triplet.proofs.Bits.{bit-at, shifted}
 
 -- the positions that the k lowest bits of a mask mark, where its lowest bit is for position n
 abbrev marked : ℕ → ℕ → ℕ → List ℕ

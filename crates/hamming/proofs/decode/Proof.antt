@@ -1,75 +1,103 @@
--- `decode` first compares the byte with the good byte of its own data bits, then tries these and their four flips. The invariant: none of
--- the values tried so far is near.
+-- `decode` goes by the checks: the overall one, and the bit that the other three tell.
 use borrow.Author.Needs.{needs}
-use borrow.Author.Count.{below-none, below-more}
-use Prim.Native.Nat.{ℕ, _-_, _≤_, _<_}
+use Prim.Native.Nat.{ℕ, _+_, _*_, _%_}
+use mathlib.Core.Path.{_≡_, sym, ap, _∙_}
 use native.Mathlib.Omega.{arith}
-use mathlib.Core.Path.{_≡_, sym}
-use mathlib.Core.Bool.{false}
-use Rattle.hamming.proofs.Bytes.{near, hit-own, hit, miss, none-near}
+use lib.Bits.{bitXor}
+use Rattle.hamming.specs.declared.Nibble.the-variants.{Clean, Mended}
+use Rattle.hamming.proofs.Checks.{own, fails, failing, Tells, clean-told, damaged-told, mended-told}
 use Rattle.hamming.proofs.decode.Statement.{statement}
 use Rattle.hamming.proofs.decode.Tie as tie
 
-abbrev Inv-loop : tie.InvT-loop
-Inv-loop b pairs halves own g i₀ i = (i ≤ 5) × ((k : ℕ) → k < i → near b k ≡ false)
+-- the four checks of the byte
+module _ (s : tie.After-even4) where
+  abbrev byte : ℕ
+  byte = s .before .before .before .before .args .b
 
-abbrev μ-loop : tie.MeasureT-loop
-μ-loop b pairs halves own g i₀ i = 5 - i
+  three : s .before .before .before .even .result + 2 * s .before .before .even2 .result + 4 * s .before .even3 .result ≡ failing byte
+  three =
+      let f₁ : s .before .before .before .even .result ≡ fails 0xA3 byte = s .before .before .before .even .ensures in
+      let f₂ : s .before .before .even2 .result ≡ fails 0x8E byte = s .before .before .even2 .ensures in
+      let f₃ : s .before .even3 .result ≡ fails 0x3A byte = s .before .even3 .ensures in
+      omega arith
 
-good-byte-requires : tie.Need-good-byte-requires Inv-loop μ-loop
-good-byte-requires c κs = search needs
+  overall : s .even4 .result ≡ fails 0xFF byte
+  overall = s .even4 .ensures
 
-returns : tie.Need-returns Inv-loop μ-loop
-returns c = hit-own (c .before .before .args .b) (c .before .good-byte .ensures) (c .if1 .taken)
+not-0 : {f : ℕ} (n : ℕ) → f ≡ n % 2 → (f ≡ 0 → ⊥) → n % 2 ≡ 1
+not-0 n e l = omega arith
 
-loop-holds : tie.Need-loop-holds Inv-loop μ-loop
-loop-holds c = (search needs, below-none _)
+even-requires : tie.Need-even-requires
+even-requires c κs = search needs
 
-array-read-v : tie.Need-array-read-v Inv-loop μ-loop
-array-read-v c = search needs
+even-requires-2 : tie.Need-even-requires-2
+even-requires-2 c κs = search needs
 
-near-requires : tie.Need-near-requires Inv-loop μ-loop
-near-requires c κs = search needs
+mul-failing : tie.Need-mul-failing
+mul-failing c = search needs
 
-returns-2 : tie.Need-returns-2 Inv-loop μ-loop
-returns-2 c =
+add-failing : tie.Need-add-failing
+add-failing c = search needs
+
+even-requires-3 : tie.Need-even-requires-3
+even-requires-3 c κs = search needs
+
+mul-failing-2 : tie.Need-mul-failing-2
+mul-failing-2 c = search needs
+
+add-failing-2 : tie.Need-add-failing-2
+add-failing-2 c = search needs
+
+even-requires-4 : tie.Need-even-requires-4
+even-requires-4 c κs = search needs
+
+data-bits-requires : tie.Need-data-bits-requires
+data-bits-requires c κs = search needs
+
+returns : tie.Need-returns
+returns c =
     let s = c .before .before .before in
-    let g = s .before .before in
-    hit (g .before .args .b) (s .loop .i) (search needs) (search needs) (c .before .near .ensures) (g .good-byte .ensures) (s .before .if1 .left) (c .if2 .taken)
+    let n : failing (byte s) ≡ 0 = sym (three s) ∙ c .before .if2 .taken in
+    let o : fails 0xFF (byte s) ≡ 0 = sym (overall s) ∙ c .before .before .if1 .taken in
+    ap Clean (c .data-bits .ensures) ∙ clean-told (byte s) (search needs) n o
 
-add-i : tie.Need-add-i Inv-loop μ-loop
-add-i c = search needs
+returns-2 : tie.Need-returns-2
+returns-2 c =
+    let s = c .before .before in
+    let n : failing (byte s) ≡ 0 → ⊥ = λ z. c .if2 .left (three s ∙ z) in
+    let o : fails 0xFF (byte s) ≡ 0 = sym (overall s) ∙ c .before .if1 .taken in
+    damaged-told (byte s) (search needs) n o
 
-loop-less : tie.Need-loop-less Inv-loop μ-loop
-loop-less c = search needs
+wrong-bit-requires : tie.Need-wrong-bit-requires
+wrong-bit-requires c κs = search needs
 
-loop-again : tie.Need-loop-again Inv-loop μ-loop
-loop-again c =
-    let s = c .before .before .before in (
-      search needs,
-      below-more _ _ (s .loop .inv .1)
-          (miss (s .before .before .before .args .b) (s .loop .i) (search needs) (search needs) (c .before .near .ensures) (c .if2 .left)),
-    )
+data-bits-requires-2 : tie.Need-data-bits-requires-2
+data-bits-requires-2 c κs = search needs
 
-returns-3 : tie.Need-returns-3 Inv-loop μ-loop
+returns-3 : tie.Need-returns-3
 returns-3 c =
-    let s = c .before in
-    let e : s .loop .i ≡ 5 = omega arith in
-    sym (none-near (s .before .before .before .args .b) (search needs) (λ k h. s .loop .inv .1 k (omega arith)))
+    let s = c .before .before .before in
+    let o : fails 0xFF (byte s) ≡ 1 = not-0 _ (overall s) (c .before .before .if1 .left) in
+    let w = c .before .wrong-bit in
+    let t : Tells (w .result) (failing (byte s)) = rw (three s) at (w .ensures) in
+    let v : c .data-bits2 .result ≡ own (bitXor (byte s) (w .result)) = c .data-bits2 .ensures in
+    ap Mended v ∙ mended-told (byte s) (search needs) (w .result) (search needs) t o
 
 pub decode-spec : {M : Type 1} → statement M
 decode-spec =
     tie.close
     (tie.spec
-    Inv-loop
-    μ-loop
-    good-byte-requires
+    even-requires
+    even-requires-2
+    mul-failing
+    add-failing
+    even-requires-3
+    mul-failing-2
+    add-failing-2
+    even-requires-4
+    data-bits-requires
     returns
-    loop-holds
-    array-read-v
-    near-requires
     returns-2
-    add-i
-    loop-less
-    loop-again
+    wrong-bit-requires
+    data-bits-requires-2
     returns-3)

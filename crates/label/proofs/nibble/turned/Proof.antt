@@ -1,9 +1,10 @@
 -- `turned` has a row for each value, whose number is that of the data bits, D1 first: one test of the sixteen.
-use Prim.Native.Nat.{ℕ, zero, suc, _%_, _<_, _≤_}
+use Prim.Native.Nat.{ℕ, _%_, _<_}
 use mathlib.Core.List.{List, [], _∷_}
 use mathlib.Core.Path.{_≡_, subst}
 use native.Mathlib.Omega.{arith}
 use lib.ListN.{getD}
+use Rattle.answer.proofs.Cases.{past}
 use Rattle.hamming.specs.Byte.{D}
 use Rattle.label.proofs.Nibbles.{turned, turning}
 use Rattle.label.proofs.nibble.turned.Statement.{statement}
@@ -11,18 +12,6 @@ use Rattle.label.proofs.nibble.turned.Tie as tie
 
 abbrev table : List ℕ
 table = 0 ∷ 8 ∷ 4 ∷ 12 ∷ 2 ∷ 10 ∷ 6 ∷ 14 ∷ 1 ∷ 9 ∷ 5 ∷ 13 ∷ 3 ∷ 11 ∷ 7 ∷ 15 ∷ []
-
--- m is none of the numbers below k, in the shape of a match that has tried them
-abbrev Tried : ℕ → ℕ → Type 0
-Tried zero m = Unit {0}
-Tried (suc k) m = Tried k m × (m ≡ k → ⊥)
-
-past : (k m : ℕ) → Tried k m → k ≤ m
-past zero m t = omega arith
-past (suc k) m t = up (past k m (t .0)) (t .1)
-  where
-    up : k ≤ m → (m ≡ k → ⊥) → suc k ≤ m
-    up h n = omega arith
 
 looked : (v k : ℕ) → v % 16 ≡ k → (getD table k 0 ≡ turned v) × (getD table k 0 < 16)
 unfolding D
