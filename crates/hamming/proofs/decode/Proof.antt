@@ -27,33 +27,6 @@ module _ (s : tie.After-even4) where
 not-0 : {f : ℕ} (n : ℕ) → f ≡ n % 2 → (f ≡ 0 → ⊥) → n % 2 ≡ 1
 not-0 n e l = omega arith
 
-even-requires : tie.Need-even-requires
-even-requires c κs = search needs
-
-even-requires-2 : tie.Need-even-requires-2
-even-requires-2 c κs = search needs
-
-mul-failing : tie.Need-mul-failing
-mul-failing c = search needs
-
-add-failing : tie.Need-add-failing
-add-failing c = search needs
-
-even-requires-3 : tie.Need-even-requires-3
-even-requires-3 c κs = search needs
-
-mul-failing-2 : tie.Need-mul-failing-2
-mul-failing-2 c = search needs
-
-add-failing-2 : tie.Need-add-failing-2
-add-failing-2 c = search needs
-
-even-requires-4 : tie.Need-even-requires-4
-even-requires-4 c κs = search needs
-
-data-bits-requires : tie.Need-data-bits-requires
-data-bits-requires c κs = search needs
-
 returns : tie.Need-returns
 returns c =
     let s = c .before .before .before in
@@ -68,12 +41,6 @@ returns-2 c =
     let o : fails 0xFF (byte s) ≡ 0 = sym (overall s) ∙ c .before .if1 .taken in
     damaged-told (byte s) (search needs) n o
 
-wrong-bit-requires : tie.Need-wrong-bit-requires
-wrong-bit-requires c κs = search needs
-
-data-bits-requires-2 : tie.Need-data-bits-requires-2
-data-bits-requires-2 c κs = search needs
-
 returns-3 : tie.Need-returns-3
 returns-3 c =
     let s = c .before .before .before in
@@ -87,17 +54,17 @@ pub decode-spec : {M : Type 1} → statement M
 decode-spec =
     tie.close
     (tie.spec
-    even-requires
-    even-requires-2
-    mul-failing
-    add-failing
-    even-requires-3
-    mul-failing-2
-    add-failing-2
-    even-requires-4
-    data-bits-requires
+    (λ c κs. search needs)
+    (λ c κs. search needs)
+    (λ c. search needs)
+    (λ c. search needs)
+    (λ c κs. search needs)
+    (λ c. search needs)
+    (λ c. search needs)
+    (λ c κs. search needs)
+    (λ c κs. search needs)
     returns
     returns-2
-    wrong-bit-requires
-    data-bits-requires-2
+    (λ c κs. search needs)
+    (λ c κs. search needs)
     returns-3)

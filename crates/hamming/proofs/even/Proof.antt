@@ -13,11 +13,8 @@ add-result c =
     let l = ones-le 8 (bitAnd b m) (and-lt 8 b m (search needs) (search needs)) in
     search needs
 
-cast-result : tie.Need-cast-result
-cast-result c = search needs
-
 returns : tie.Need-returns
 returns c = refl
 
 pub even-spec : {M : Type 1} → statement M
-even-spec = tie.close (tie.spec add-result cast-result returns)
+even-spec = tie.close (tie.spec add-result (λ c. search needs) returns)

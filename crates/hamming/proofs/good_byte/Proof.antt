@@ -8,63 +8,6 @@ use Rattle.hamming.proofs.Checks.{laid, lowest-four, fails, sent-good}
 use Rattle.hamming.proofs.good_byte.Statement.{statement}
 use Rattle.hamming.proofs.good_byte.Tie as tie
 
-mul-data : tie.Need-mul-data
-mul-data c = search needs
-
-mul-data-2 : tie.Need-mul-data-2
-mul-data-2 c = search needs
-
-add-data : tie.Need-add-data
-add-data c = search needs
-
-mul-data-3 : tie.Need-mul-data-3
-mul-data-3 c = search needs
-
-add-data-2 : tie.Need-add-data-2
-add-data-2 c = search needs
-
-mul-data-4 : tie.Need-mul-data-4
-mul-data-4 c = search needs
-
-add-data-3 : tie.Need-add-data-3
-add-data-3 c = search needs
-
-even-requires : tie.Need-even-requires
-even-requires c κs = search needs
-
-even-requires-2 : tie.Need-even-requires-2
-even-requires-2 c κs = search needs
-
-even-requires-3 : tie.Need-even-requires-3
-even-requires-3 c κs = search needs
-
-mul-seven : tie.Need-mul-seven
-mul-seven c = search needs
-
-add-seven : tie.Need-add-seven
-add-seven c = search needs
-
-mul-seven-2 : tie.Need-mul-seven-2
-mul-seven-2 c = search needs
-
-add-seven-2 : tie.Need-add-seven-2
-add-seven-2 c = search needs
-
-mul-seven-3 : tie.Need-mul-seven-3
-mul-seven-3 c = search needs
-
-add-seven-3 : tie.Need-add-seven-3
-add-seven-3 c = search needs
-
-even-requires-4 : tie.Need-even-requires-4
-even-requires-4 c κs = search needs
-
-mul-result : tie.Need-mul-result
-mul-result c = search needs
-
-add-result : tie.Need-add-result
-add-result c = search needs
-
 returns : tie.Need-returns
 returns c =
     let s₃ = c .before in
@@ -91,23 +34,23 @@ pub good-byte-spec : {M : Type 1} → statement M
 good-byte-spec =
     tie.close
     (tie.spec
-    mul-data
-    mul-data-2
-    add-data
-    mul-data-3
-    add-data-2
-    mul-data-4
-    add-data-3
-    even-requires
-    even-requires-2
-    even-requires-3
-    mul-seven
-    add-seven
-    mul-seven-2
-    add-seven-2
-    mul-seven-3
-    add-seven-3
-    even-requires-4
-    mul-result
-    add-result
+    (λ c. search needs)
+    (λ c. search needs)
+    (λ c. search needs)
+    (λ c. search needs)
+    (λ c. search needs)
+    (λ c. search needs)
+    (λ c. search needs)
+    (λ c κs. search needs)
+    (λ c κs. search needs)
+    (λ c κs. search needs)
+    (λ c. search needs)
+    (λ c. search needs)
+    (λ c. search needs)
+    (λ c. search needs)
+    (λ c. search needs)
+    (λ c. search needs)
+    (λ c κs. search needs)
+    (λ c. search needs)
+    (λ c. search needs)
     returns)
