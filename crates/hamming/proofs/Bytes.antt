@@ -1,10 +1,10 @@
 -- What a byte carries, by its distance from the good bytes: these are four bits apart, so no byte is near two.
-use Prim.Native.Nat.{ℕ, zero, suc, _+_, _%_, _<_, _≤_}
+use Prim.Native.Nat.{ℕ, zero, suc, _+_, _<_, _≤_}
 use mathlib.Core.Path.{_≡_, refl, sym, ap, _∙_}
-use mathlib.Core.Bool.{Bool, true, false, not}
+use mathlib.Core.Bool.{Bool, not}
 use mathlib.Core.List.{map}
 use native.Mathlib.Omega.{arith}
-use borrow.Author.Tests.{ne-eqb, eqb-true, eqb-false, leb-true, leb-false}
+use borrow.Author.Tests.{ne-eqb, eqb-true, eqb-false}
 use lib.Dec.{T, eqb, leb, ltb, leb→le, ltb→lt}
 use Rattle.answer.proofs.All.{below, each, unless, asked}
 use Rattle.answer.proofs.Cases.{by-test}

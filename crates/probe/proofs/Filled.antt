@@ -1,15 +1,11 @@
--- A list in which every place is stored anew, one after the other.
-use Prim.Native.Nat.{ℕ, _+_, _<_}
+-- A list in which every place is stored anew.
+use Prim.Native.Nat.{ℕ, _+_}
 use mathlib.Core.Path.{_≡_, ap, _∙_}
 use mathlib.Core.List.{List, _++_, append-nil}
 use native.Mathlib.Omega.{arith}
 use lib.ListN.{length, drop-of-length-le}
-use lib.Seq.{sets, sets-eq, lt-length-sets}
+use lib.Seq.{sets, sets-eq}
 
 pub filled : (l vs : List ℕ) → length l ≡ length vs → sets l 0 vs ≡ vs
 filled l vs e =
     sets-eq vs l 0 (omega arith) ∙ ap (λ (r : List ℕ). vs ++ r) (drop-of-length-le l {i = 0 + length vs} (omega arith)) ∙ append-nil vs
-
--- after stores, whatever they store, a place is in the list where it was before
-pub in-stored : (l vs : List ℕ) {i n : ℕ} → length l ≡ n → i < n → i < length (sets l 0 vs)
-in-stored l vs {i} e h = lt-length-sets l 0 vs (rw e h)

@@ -1,16 +1,7 @@
 -- `programme_at` reads the sixteen bytes.
 use borrow.Author.Needs.{needs}
-use Prim.Native.Nat.{ℕ, _+_}
-use mathlib.Core.Bool.{not}
-use mathlib.Core.List.{List}
-use mathlib.Core.Path.{_≡_, refl}
-use lib.Dec.{eqb}
-use lib.ListN.{getD}
-use Rattle.group.specs.declared.Offset.{Offset}
-use Rattle.programmes.specs.declared.Finish.{Finish}
-use Rattle.programmes.specs.declared.Programme.{Programme}
-use Rattle.programmes.specs.declared.Series.{Series}
-use Rattle.fields.specs.Fields.{finishBy, offsetBy, seriesBy, programmeAt}
+use mathlib.Core.Path.{refl}
+use Rattle.fields.specs.Fields.{programmeAt}
 use Rattle.fields.proofs.programme.programme_at.Statement.{statement}
 use Rattle.fields.proofs.programme.programme_at.Tie as tie
 
@@ -116,38 +107,13 @@ add-t36 c = search needs
 shared-slice-read-t38 : tie.Need-shared-slice-read-t38
 shared-slice-read-t38 c = search needs
 
--- the three parts that calls make, and the nine that are bytes as they stand
-abbrev parts : List ℕ → ℕ → Finish → Offset → Series → Programme
-parts f at finish offset series = record {
-  row = getD f at 0;
-  column = getD f (at + 1) 0;
-  day = getD f (at + 2) 0;
-  month = getD f (at + 3) 0;
-  hour = getD f (at + 4) 0;
-  minute = getD f (at + 5) 0;
-  finish = finish;
-  country = getD f (at + 9) 0;
-  source = getD f (at + 10) 0;
-  offset = offset;
-  controlled = not (eqb (getD f (at + 13) 0) 0);
-  series = series;
-}
-
-made : (f : List ℕ) (at : ℕ) (finish : Finish) (offset : Offset) (series : Series) →
-    finish ≡ finishBy (getD f (at + 6) 0) (getD f (at + 7) 0) (getD f (at + 8) 0)
-    → offset ≡ offsetBy (getD f (at + 11) 0) (getD f (at + 12) 0)
-    → series ≡ seriesBy (getD f (at + 14) 0) (getD f (at + 15) 0)
-    → parts f at finish offset series ≡ programmeAt f at
-unfolding programmeAt
-made f at finish offset series x y z = rw (x, y, z) refl
-
 returns : tie.Need-returns
+unfolding programmeAt
 returns c =
     let s = c .before .before .before .before .before .before .before .before .before in
     let o = s .before .before .before in
     let f = o .before .before .before in
-    let a = f .before .before .before .before .before .args in
-    made (a .f .now) (a .at) _ _ _ (f .finish-by .ensures) (o .offset-by .ensures) (s .series-by .ensures)
+    rw (f .finish-by .ensures, o .offset-by .ensures, s .series-by .ensures) refl
 
 pub programme-at-spec : {M : Type 1} → statement M
 programme-at-spec =
