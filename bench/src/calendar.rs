@@ -1,4 +1,4 @@
-//! When a label's window opens and closes.
+//! When a label's window opens and closes, and the second that it announces.
 
 /// The clock's last second.
 pub const END: u32 = 3_155_774_400;
@@ -13,6 +13,7 @@ const BEFORE: [u32; 13] = [0, 31, 59, 90, 120, 151, 181, 212, 243, 273, 304, 334
 pub struct Window {
     pub opens: u32,
     pub closes: u32,
+    pub announced: u32,
 }
 
 /// None if the year is above 99 or the PIL is no date and time of it.
@@ -29,5 +30,5 @@ pub fn window(pil: u32, year: u8) -> Option<Window> {
     let leap_days = (year as u32 + 3) / 4 + (leap && month > 2) as u32;
     let midnight = DAY * (365 * year as u32 + leap_days + BEFORE[month - 1] + day - 1);
     let opens = if hour < 4 { midnight.saturating_sub(4 * HOUR) } else { midnight };
-    Some(Window { opens, closes: midnight + DAY + 4 * HOUR })
+    Some(Window { opens, closes: midnight + DAY + 4 * HOUR, announced: midnight + hour * HOUR + minute * 60 })
 }

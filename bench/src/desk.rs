@@ -1,11 +1,12 @@
-//! The desk. Which places match a timer is kept as a mask of sixteen bits, brought up to date when a label comes or lapses. Time
-//! is not walked: the clock goes from one second at which something can change to the next.
+//! The desk. Which places match a timer is kept as a mask of sixteen bits, brought up to date when a label comes or lapses, and so is at
+//! which of them timer-control stands. Time is not walked: the clock goes from one second at which something can change to the next.
 use crate::calendar::{self, Window, END};
 use crate::packet::{self, Label};
 
 const STANDS: u32 = 5;
 const RUNS_ON: u32 = 30;
 const PREPARED: u32 = 60;
+const TIMER_CONTROL: u32 = 15 << 11 | 31 << 6 | 63;
 const CONTINUATION: u32 = 15 << 11 | 28 << 6 | 63;
 const NEVER: u32 = u32::MAX;
 
@@ -16,6 +17,7 @@ pub enum State {
     Recording(u8),
     RunningOn(u8),
     Ended,
+    ByTheClock,
 }
 
 #[derive(Clone, Copy, PartialEq, Eq)]
@@ -24,6 +26,7 @@ enum Copy {
     Prepared { since: u32 },
     Recording { place: u8, mi: bool },
     RunningOn { place: u8, since: u32 },
+    ByTheClock,
 }
 
 #[derive(Clone, Copy)]
@@ -32,6 +35,10 @@ struct Timer {
     pil: u32,
     year: u8,
     window: Window,
+    /// The places of the home tuner.
+    home: u16,
+    /// The first second that is not by the clock any more: the length has passed, or the window has closed.
+    ends: u32,
     /// Places whose standing label has this CNI and PIL, and those of them with PRF 0.
     equal: u16,
     begun: u16,
@@ -51,14 +58,15 @@ impl Timer {
         }
     }
 
-    /// The copy after a moment in the open window.
-    fn next(&self, now: u32, places: &[Place; 16]) -> Copy {
+    /// The copy after a moment in the open window. The labels of its home tuner may fail.
+    fn next(&self, now: u32, places: &[Place; 16], fails: bool) -> Copy {
         let record = |place: u32| Copy::Recording { place: place as u8, mi: places[place as usize].label.mi };
         match self.copy {
             Copy::Recording { place, .. } if self.equal >> place & 1 == 1 => record(place as u32),
             _ if self.begun != 0 => record(self.begun.trailing_zeros()),
             Copy::Recording { place, mi: false } => Copy::RunningOn { place, since: now },
             Copy::RunningOn { since, .. } if now - since < RUNS_ON => self.copy,
+            _ if fails && (self.window.announced..self.ends).contains(&now) => Copy::ByTheClock,
             _ if self.equal == 0 => Copy::Idle,
             Copy::Prepared { since } if now - since > PREPARED => record(self.equal.trailing_zeros()),
             Copy::Prepared { .. } => self.copy,
@@ -66,8 +74,12 @@ impl Timer {
         }
     }
 
-    fn live(&self) -> bool {
+    fn by_labels(&self) -> bool {
         matches!(self.copy, Copy::Recording { .. } | Copy::RunningOn { .. })
+    }
+
+    fn live(&self) -> bool {
+        self.by_labels() || self.copy == Copy::ByTheClock
     }
 }
 
@@ -80,12 +92,15 @@ struct Place {
 pub struct Desk {
     clock: u32,
     places: [Place; 16],
-    /// Places at which a label stands.
+    /// Places at which a label stands, and those of them at which it is timer-control.
     standing: u16,
+    control: u16,
     slots: [Option<Timer>; 16],
     /// No earlier second than this one changes anything.
     next: u32,
     live: u8,
+    /// Those that record or run on.
+    by_labels: u8,
 }
 
 impl Default for Desk {
@@ -101,7 +116,7 @@ fn bits(mask: u16) -> impl Iterator<Item = usize> {
 impl Desk {
     pub fn new() -> Desk {
         let place = Place { label: Label::default(), stamp: 0 };
-        Desk { clock: 0, places: [place; 16], standing: 0, slots: [None; 16], next: NEVER, live: 0 }
+        Desk { clock: 0, places: [place; 16], standing: 0, control: 0, slots: [None; 16], next: NEVER, live: 0, by_labels: 0 }
     }
 
     /// A packet of a tuner: 0, or the number of the refusal.
@@ -128,24 +143,24 @@ impl Desk {
             place.stamp = time;
         } else {
             *place = Place { label, stamp: time };
-            self.standing |= 1 << at;
-            for timer in self.slots.iter_mut().flatten() {
-                timer.hear(at, Some(&label));
-            }
+            self.hear(at, Some(&label));
             self.moment();
         }
         0
     }
 
-    /// The seconds until no label stood and nothing was live, or the whole wait.
+    /// The seconds until no label stood and nothing was recording or running on, or the whole wait.
     pub fn wait(&mut self, time: u32) -> Result<u32, u8> {
         self.check(time)?;
         let from = self.clock;
         Ok(self.pass(time).min(time) - from)
     }
 
-    pub fn add(&mut self, cni: u16, pil: u32, year: u8) -> Result<u8, u8> {
+    pub fn add(&mut self, cni: u16, pil: u32, year: u8, tuner: u8, length: u16) -> Result<u8, u8> {
         let window = calendar::window(pil, year).ok_or(11)?;
+        if tuner > 3 || !(1..=1440).contains(&length) {
+            return Err(17);
+        }
         if self.clock >= window.closes {
             return Err(12);
         }
@@ -161,7 +176,8 @@ impl Desk {
             }
         }
         let slot = room.ok_or(14)?;
-        let mut timer = Timer { cni, pil, year, window, equal: 0, begun: 0, copy: Copy::Idle };
+        let (home, ends) = (15 << 4 * tuner, window.closes.min(window.announced + 60 * length as u32));
+        let mut timer = Timer { cni, pil, year, window, home, ends, equal: 0, begun: 0, copy: Copy::Idle };
         for at in bits(self.standing) {
             timer.hear(at, Some(&self.places[at].label));
         }
@@ -174,6 +190,7 @@ impl Desk {
         match self.slots.get_mut(slot as usize).and_then(Option::take) {
             Some(timer) => {
                 self.live -= timer.live() as u8;
+                self.by_labels -= timer.by_labels() as u8;
                 0
             }
             None => 15,
@@ -187,6 +204,7 @@ impl Desk {
             Copy::Recording { place, .. } => State::Recording(place),
             Copy::RunningOn { place, .. } => State::RunningOn(place),
             Copy::Prepared { .. } => State::Prepared,
+            Copy::ByTheClock => State::ByTheClock,
             Copy::Idle => State::Waiting,
         })
     }
@@ -205,9 +223,21 @@ impl Desk {
         }
     }
 
-    /// Passes every second up to this one, and gives the first at which all was quiet, or a later one than it.
+    /// Another label at a place, or none.
+    fn hear(&mut self, at: usize, label: Option<&Label>) {
+        let bit = 1 << at;
+        self.standing = if label.is_some() { self.standing | bit } else { self.standing & !bit };
+        let control = label.map_or(false, |label| label.pil == TIMER_CONTROL);
+        self.control = if control { self.control | bit } else { self.control & !bit };
+        for timer in self.slots.iter_mut().flatten() {
+            timer.hear(at, label);
+        }
+    }
+
+    /// Passes every second up to this one, and gives the first at which all was quiet, or a later one than it. From there on only the
+    /// clock decides, and it asks for no second but the last.
     fn pass(&mut self, time: u32) -> u32 {
-        while self.standing != 0 || self.live != 0 {
+        while self.standing != 0 || self.by_labels != 0 {
             if self.next > time {
                 self.clock = time;
                 return NEVER;
@@ -215,16 +245,16 @@ impl Desk {
             self.clock = self.next;
             for at in bits(self.standing) {
                 if self.clock - self.places[at].stamp > STANDS {
-                    self.standing &= !(1 << at);
-                    for timer in self.slots.iter_mut().flatten() {
-                        timer.hear(at, None);
-                    }
+                    self.hear(at, None);
                 }
             }
             self.moment();
         }
         let quiet = self.clock;
         self.clock = time;
+        if self.next <= time {
+            self.moment();
+        }
         quiet
     }
 
@@ -232,8 +262,7 @@ impl Desk {
     /// found here; then a moment comes that changes nothing but this.
     fn moment(&mut self) {
         let now = self.clock;
-        let mut next = NEVER;
-        let mut live = 0;
+        let (mut next, mut live, mut by_labels) = (NEVER, 0, 0);
         for at in bits(self.standing) {
             next = next.min(self.places[at].stamp + STANDS + 1);
         }
@@ -242,6 +271,10 @@ impl Desk {
                 timer.copy = Copy::Idle;
                 continue;
             }
+            let fails = self.standing & timer.home == 0 || self.control & timer.home != 0;
+            if fails && now < timer.ends {
+                next = next.min(if now < timer.window.announced { timer.window.announced } else { timer.ends });
+            }
             if timer.window.opens > now {
                 // before the window a match is none; only a label that stands can be waiting for it
                 if timer.equal != 0 {
@@ -249,9 +282,10 @@ impl Desk {
                 }
                 continue;
             }
-            timer.copy = timer.next(now, &self.places);
-            if timer.live() {
-                live += 1;
+            timer.copy = timer.next(now, &self.places, fails);
+            live += timer.live() as u8;
+            if timer.by_labels() {
+                by_labels += 1;
                 next = next.min(timer.window.closes);
             }
             match timer.copy {
@@ -260,7 +294,6 @@ impl Desk {
                 _ => {}
             }
         }
-        self.live = live;
-        self.next = next;
+        (self.live, self.by_labels, self.next) = (live, by_labels, next);
     }
 }

@@ -54,10 +54,11 @@ fn take<const N: usize>(input: &mut impl Read) -> io::Result<[u8; N]> {
 fn sections(desk: &mut Desk, input: &mut impl Read, out: &mut impl Write) -> io::Result<()> {
     let [count] = take(input)?;
     for _ in 0..count {
-        let t: [u8; 6] = take(input)?;
+        let t: [u8; 9] = take(input)?;
         let cni = u16::from_be_bytes([t[0], t[1]]);
         let pil = u32::from_be_bytes([0, t[2], t[3], t[4]]);
-        match desk.add(cni, pil, t[5]) {
+        let length = u16::from_be_bytes([t[7], t[8]]);
+        match desk.add(cni, pil, t[5], t[6], length) {
             Ok(slot) => line(out, ["T ", ""], [slot, 0])?,
             Err(refusal) => line(out, ["T !", ""], [refusal, 0])?,
         }

@@ -1,6 +1,6 @@
 //! The ordinary desk beside the independent one, on random sheets and on random rows of calls. In one of ten the independent desk
 //! walks every second up to a call that is not more than a million seconds ahead; in the others, and up to calls that are, the clock
-//! of a desk with no label standing and nothing live is put forward.
+//! of a desk with no label standing and nothing recording or running on is put forward.
 use independent::{calendar, calls, desk, paper, random, sheet, sheets};
 
 struct Ordinary(bench::desk::Desk);
@@ -12,8 +12,8 @@ impl calls::Machine for Ordinary {
     fn wait(&mut self, time: u32) -> Result<u32, u8> {
         self.0.wait(time)
     }
-    fn add(&mut self, cni: u16, pil: u32, year: u8) -> Result<u8, u8> {
-        self.0.add(cni, pil, year)
+    fn add(&mut self, cni: u16, pil: u32, year: u8, tuner: u8, length: u16) -> Result<u8, u8> {
+        self.0.add(cni, pil, year, tuner, length)
     }
     fn cancel(&mut self, slot: u8) -> u8 {
         self.0.cancel(slot)
@@ -26,6 +26,7 @@ impl calls::Machine for Ordinary {
             State::Recording(place) => calls::State::Recording(place),
             State::RunningOn(place) => calls::State::RunningOn(place),
             State::Ended => calls::State::Ended,
+            State::ByTheClock => calls::State::ByTheClock,
         })
     }
     fn live(&self) -> u8 {
@@ -75,8 +76,9 @@ fn calls_answer_the_same_second_by_second() {
 fn windows_are_the_same() {
     for year in [0, 1, 2, 99, 100] {
         for pil in 0..1 << 20 {
-            let own = bench::calendar::window(pil, year).map(|w| (w.opens, w.closes));
-            assert_eq!(own, calendar::window(pil, year).ok(), "PIL {pil:05X} in year {year}");
+            let own = bench::calendar::window(pil, year);
+            assert_eq!(own.map(|w| (w.opens, w.closes)), calendar::window(pil, year).ok(), "PIL {pil:05X} in year {year}");
+            assert_eq!(own.map(|w| w.announced), calendar::announced(pil, year).ok(), "PIL {pil:05X} in year {year}");
         }
     }
 }

@@ -9,23 +9,28 @@ type Answer = [u8; 40];
 /// The last slot that an answer tells, and the first that there is not.
 const PAST: u8 = 16;
 
-fn row(call: u8, number: u32, cni: u16, byte: u8, packet: &[u8]) -> Row {
+fn row(call: u8, number: u32, cni: u16, byte: u8, rest: &[u8]) -> Row {
     let mut row = [0; 128];
     row[0] = call;
     row[1..5].copy_from_slice(&number.to_be_bytes());
     row[5..7].copy_from_slice(&cni.to_be_bytes());
     row[7] = byte;
-    row[8] = u8::try_from(packet.len()).unwrap();
-    row[9..9 + packet.len()].copy_from_slice(packet);
+    row[8..8 + rest.len()].copy_from_slice(rest);
     row
 }
 
 /// The row of a call; every answer asks each slot, so asking has none.
 fn of(call: &Call) -> Option<Row> {
     match call {
-        Call::Packet(time, tuner, bytes) => Some(row(1, *time, 0, *tuner, bytes)),
+        Call::Packet(time, tuner, bytes) => {
+            let length = u8::try_from(bytes.len()).unwrap();
+            Some(row(1, *time, 0, *tuner, &[&[length], &bytes[..]].concat()))
+        }
         Call::Wait(time) => Some(row(2, *time, 0, 0, &[])),
-        Call::Add(cni, pil, year) => Some(row(3, *pil, *cni, *year, &[])),
+        Call::Add(cni, pil, year, tuner, length) => {
+            let [high, low] = length.to_be_bytes();
+            Some(row(3, *pil, *cni, *year, &[*tuner, high, low]))
+        }
         Call::Cancel(slot) => Some(row(4, 0, 0, *slot, &[])),
         Call::Ask(_) => None,
     }
@@ -84,7 +89,7 @@ impl Machine for Answered {
     fn wait(&mut self, _: u32) -> Result<u32, u8> {
         self.given()
     }
-    fn add(&mut self, _: u16, _: u32, _: u8) -> Result<u8, u8> {
+    fn add(&mut self, _: u16, _: u32, _: u8, _: u8, _: u16) -> Result<u8, u8> {
         self.given().map(|slot| u8::try_from(slot).unwrap())
     }
     fn cancel(&mut self, _: u8) -> u8 {
@@ -98,6 +103,7 @@ impl Machine for Answered {
             (2, place) => Ok(State::Recording(place)),
             (3, place) => Ok(State::RunningOn(place)),
             (4, _) => Ok(State::Ended),
+            (5, 0) => Ok(State::ByTheClock),
             (number, _) => Err(number),
         }
     }

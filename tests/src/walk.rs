@@ -4,7 +4,7 @@ use independent::sheets::SHEETS;
 use std::sync::atomic::{AtomicU64, Ordering};
 
 /// Every second is a moment, but where a call is more than a million seconds ahead: there the clock of a desk with no label
-/// standing and nothing live is put forward.
+/// standing and nothing recording or running on is put forward, and what the clock records follows from the call's second.
 pub fn desk() -> Desk {
     Desk::with(Pace::Near, None)
 }
@@ -29,6 +29,8 @@ pub struct Walked {
     pub after_jump: AtomicU64,
     /// The desks that started a timer after a minute of being prepared.
     pub started: AtomicU64,
+    /// Those that had one by the clock.
+    pub clocked: AtomicU64,
 }
 
 impl Walked {
@@ -36,18 +38,20 @@ impl Walked {
         let seconds = desk.clock() as u64 - desk.skipped();
         self.seconds.fetch_add(seconds, Ordering::Relaxed);
         self.started.fetch_add((desk.starts() > 0) as u64, Ordering::Relaxed);
+        self.clocked.fetch_add((desk.clocked() > 0) as u64, Ordering::Relaxed);
         if seconds > 0 {
             let desks = if desk.skipped() == 0 { &self.from_start } else { &self.after_jump };
             desks.fetch_add(1, Ordering::Relaxed);
         }
     }
 
-    /// Whether the random sheets, or rows of calls, were walked that widely, and started timers that often.
+    /// Whether the random sheets, or rows of calls, were walked that widely, and started timers and had them by the clock that often.
     pub fn is_wide(&self) -> bool {
         let above = |number: &AtomicU64, least| number.load(Ordering::Relaxed) > least;
         above(&self.seconds, 150_000_000)
             && above(&self.from_start, SHEETS / 10)
             && above(&self.after_jump, SHEETS / 2)
             && above(&self.started, SHEETS / 8)
+            && above(&self.clocked, SHEETS / 4)
     }
 }

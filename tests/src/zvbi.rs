@@ -25,6 +25,7 @@ extern "C" {
     fn vbi_unham24p(bytes: *const u8) -> c_int;
     fn vbi_decode_teletext_8302_pdc(pid: *mut ProgramId, buffer: *const u8) -> c_int;
     // time_t is 64 bits wide on every system that the tests run on
+    fn vbi_pil_lto_to_time(pil: c_uint, start: i64, seconds_east: c_int) -> i64;
     fn vbi_pil_lto_validity_window(begin: *mut i64, end: *mut i64, pil: c_uint, start: i64, seconds_east: c_int) -> c_int;
 }
 
@@ -86,4 +87,11 @@ pub fn window(pil: u32, near: i64) -> Option<(i64, i64)> {
     let (mut begin, mut end) = (0, 0);
     let given = unsafe { vbi_pil_lto_validity_window(&mut begin, &mut end, pil, near, 0) };
     (given != 0).then_some((begin, end))
+}
+
+/// The date and time of a PIL near a time, in the same way.
+pub fn announced(pil: u32, near: i64) -> Option<i64> {
+    let _held = ENVIRONMENT.lock().unwrap();
+    let given = unsafe { vbi_pil_lto_to_time(pil, near, 0) };
+    (given != -1).then_some(given)
 }

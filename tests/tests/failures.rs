@@ -5,7 +5,7 @@ use std::fs;
 use std::sync::Mutex;
 
 /// The longest sheet, and one byte that is left over.
-const DECIDING: usize = 1 + 255 * 6 + 2 + 65_535 * 47 + 1;
+const DECIDING: usize = 1 + 255 * 9 + 2 + 65_535 * 47 + 1;
 
 const PROGRAMS: [Program; 3] = [PLAY, AERIAL, PAGES];
 

@@ -55,7 +55,7 @@ fn random_bytes() {
 #[test]
 fn the_largest_sheet() {
     let largest = sheets::largest(1);
-    assert_eq!(largest.len(), 1 + 6 * 255 + 2 + 47 * 65_535);
+    assert_eq!(largest.len(), 1 + 9 * 255 + 2 + 47 * 65_535);
     let live = sheet::play(&largest).lines().filter(|line| line.starts_with("P 0") && !line.ends_with(" 0")).count();
     assert!(live > 20_000, "{live}");
     same(&own(PLAY), 1, "the largest", |_| largest.clone());

@@ -1,4 +1,5 @@
-//! Windows: beside an independent calendar and beside libzvbi.
+//! Windows: beside an independent calendar and beside libzvbi. Announced seconds are nothing that the compiled code is asked for by
+//! itself: those of the independent calendar, by which the desks are compared, are held to libzvbi's.
 use against_the_world::{ours, zvbi};
 use independent::calendar::{self, END};
 use independent::random::Random;
@@ -89,6 +90,18 @@ fn every_real_date_and_hour_as_libzvbi_says() {
         assert_eq!((begin - START, end - START), (expected, closes as i64), "{day}.{month}.{year} {hour}");
     }
     assert_eq!(early, 4);
+}
+
+#[test]
+fn an_announced_second_of_every_date_as_libzvbi_says() {
+    for (nth, (year, month, day)) in (0..).zip(dates()) {
+        for hour in [nth % 24, (nth + 12) % 24] {
+            let pil = calendar::pil(day, month, hour, (day + 7 * hour) % 60);
+            let near = START + 86_400 * calendar::day_number(year, month, day);
+            let own = calendar::announced(pil, year).unwrap() as i64;
+            assert_eq!(zvbi::announced(pil, near), Some(START + own), "{day}.{month}.{year} {hour}");
+        }
+    }
 }
 
 /// What libzvbi makes of a PIL that is not real in that year. We refuse them all with 11.

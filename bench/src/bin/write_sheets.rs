@@ -1,15 +1,18 @@
 //! Writes the sheets that are timed into a folder: `write_sheets FOLDER`.
 use independent::calendar::{day_number, pil, END};
+use independent::calls::Timer;
 use independent::paper::{self, Label};
 use independent::random::Random;
-use independent::scenes::{Packet, Timer};
+use independent::scenes::Packet;
 use independent::sheets;
 use std::path::Path;
 
 const NETWORKS: [u16; 4] = [0x1D65, 0x2D66, 0x3D67, 0x4D68];
 const YEAR: u8 = 26;
-/// How long each of the four programmes of a network lasts: together they fill the sheet.
+/// How long each of the four programmes of a network lasts, in seconds: together they fill the sheet.
 const LENGTH: u32 = 4096;
+/// The same of a timer, in minutes.
+const MINUTES: u16 = (LENGTH / 60) as u16;
 const CHANGE: usize = 300;
 const INTERRUPTION: u32 = 15 << 11 | 29 << 6 | 63;
 
@@ -19,9 +22,18 @@ fn programme(network: usize, nth: u32) -> u32 {
     pil(14, 6, minutes / 60, minutes % 60)
 }
 
+/// Each network has its tuner; the fourth goes from one to the other, and is at home with the last.
 fn timers() -> Vec<Timer> {
-    let each = |nth| (0..4).map(move |network| (NETWORKS[network], programme(network, nth), YEAR));
-    (0..4).flat_map(each).collect()
+    let timer = |network: usize, nth| {
+        let (cni, pil) = (NETWORKS[network], programme(network, nth));
+        Timer { cni, pil, year: YEAR, tuner: network as u8, length: MINUTES }
+    };
+    (0..4).flat_map(|nth| (0..4).map(move |network| timer(network, nth))).collect()
+}
+
+/// The same of a week later, all at home at one tuner.
+fn a_week_later(tuner: u8) -> Vec<Timer> {
+    timers().into_iter().map(|timer| Timer { pil: timer.pil + (7 << 15), tuner, ..timer }).collect()
 }
 
 fn packet(label: &Label) -> Vec<u8> {
@@ -86,9 +98,9 @@ fn day() -> Vec<Packet> {
 }
 
 /// Packets that far apart, of no timer's programme.
-fn apart(count: u32, step: u32) -> Vec<Packet> {
+fn apart(from: u32, count: u32, step: u32) -> Vec<Packet> {
     let bytes = packet(&Label { designation: 2, cni: 0x5D69, pil: pil(14, 6, 12, 0), ..Label::default() });
-    (0..count).map(|n| (n * step, 0, bytes.clone())).collect()
+    (0..count).map(|n| (from + n * step, 0, bytes.clone())).collect()
 }
 
 /// A recording begins, and the next packet comes so many seconds later.
@@ -96,7 +108,7 @@ fn pause(seconds: u32) -> Vec<u8> {
     let (cni, pil) = (NETWORKS[0], pil(1, 1, 12, 0));
     let bytes = packet(&Label { designation: 2, cni, pil, ..Label::default() });
     let mut timers = timers();
-    timers[0] = (cni, pil, 0);
+    timers[0] = Timer { cni, pil, year: 0, ..timers[0] };
     sheets::bytes(&timers, &[(0, 0, bytes.clone()), (seconds, 0, bytes)])
 }
 
@@ -111,8 +123,15 @@ fn main() -> std::io::Result<()> {
     let change = day.partition_point(|&(time, ..)| time < day[0].0 + LENGTH);
     write("change", sheets::bytes(&timers, &day[change - CHANGE / 2..change + CHANGE / 2]))?;
     let century = END / 30_000;
-    write("minutes", sheets::bytes(&timers, &apart(30_000, 60)))?;
-    write("century", sheets::bytes(&timers, &apart(30_000, century)))?;
+    write("minutes", sheets::bytes(&timers, &apart(0, 30_000, 60)))?;
+    write("century", sheets::bytes(&timers, &apart(0, 30_000, century)))?;
+    // timers of another day, whose home tuner hears every packet, or nothing at all
+    let start = day[0].0;
+    for (name, home) in [("heard", 0), ("silent", 3)] {
+        write(name, sheets::bytes(&a_week_later(home), &apart(start, 0xFFFF, 1)))?;
+        write(&format!("few_{name}"), sheets::bytes(&a_week_later(home), &apart(start, CHANGE as u32, 1)))?;
+        write(&format!("none_{name}"), sheets::bytes(&a_week_later(home), &[]))?;
+    }
     // by the 36th second the label has lapsed and the copy has run on, so from there on nothing is left to walk
     for (name, seconds) in [("36", 36), ("37", 37), ("minute", 60), ("century", END)] {
         write(&format!("pause_{name}"), pause(seconds))?;

@@ -23,6 +23,19 @@ const CHL4: u16 = 0x2C03;
 // One recorder, in an event.
 pub(crate) const RECORDER: u32 = 1_000_000;
 
+// Minutes. The annex gives one event a stop time, 16:35 to the first of sequence 11, and no other; for the others those are taken of the
+// one programme that goes off air with no label after it, 15:59 of the same sequence.
+const STOPPED: u16 = 35;
+
+const UNSTOPPED: u16 = 20;
+
+pub(crate) fn length_of(sequence: u8, event: u32) -> u16 {
+    if (sequence == 11) & (event == 1_02_1600) {
+        return STOPPED;
+    }
+    UNSTOPPED
+}
+
 pub(crate) const SEQUENCE_COUNT: usize = 13;
 
 pub(crate) const SEQUENCES: [Sequence; SEQUENCE_COUNT] = [

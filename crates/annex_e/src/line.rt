@@ -51,6 +51,7 @@ fn state(s: State) {
             place(p);
         }
         State::Ended => text(b"ended"),
+        State::ByTheClock => text(b"by the clock"),
     }
 }
 

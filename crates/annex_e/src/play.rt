@@ -1,5 +1,6 @@
 // Labels into packets, packets into the desk, and a line of print at each row's time.
 use crate::events::Sequence;
+use crate::events::length_of;
 use crate::line;
 use crate::numbers::YEAR;
 use crate::numbers::label_of;
@@ -14,7 +15,7 @@ use crate::rows::row_of;
 use desk::Desk;
 use label::Label;
 
-// Each sequence is of one station.
+// Each sequence is of one station, and its tuner is the home tuner of every event.
 const TUNER: u8 = 0;
 
 fn packet_of(l: Label) -> [u8; 42] {
@@ -60,7 +61,8 @@ fn book(desk: Desk, s: Sequence, event: u32) -> Desk {
         return desk;
     }
     let pil = pil_of(s.month, event);
-    let added = desk.add(s.cni, pil, YEAR);
+    let length = length_of(s.number, event);
+    let added = desk.add(s.cni, pil, YEAR, TUNER, length);
     added.desk
 }
 

@@ -1,8 +1,8 @@
 -- The laws of the calendar.
 use mathlib.Core.Path.{_≡_, refl}
 use Rattle.answer.specs.Answer.{Answer, refused, given}
-use Rattle.answer.proofs.Answers.{numbered}
-use Rattle.calendar.specs.Calendar.{validityAnswer, windowIn}
+use Rattle.answer.proofs.Answers.{numbered, equation}
+use Rattle.calendar.specs.Calendar.{announcedAt, validityAnswer, windowIn}
 use Rattle.calendar.specs.Laws.{Laws}
 use Rattle.calendar.specs.declared.Window.{Window}
 use Rattle.calendar.specs.declared.Validity.{Validity}
@@ -33,4 +33,5 @@ laws = record {
   same-close = same-close;
   overlap = overlap;
   window-unique = λ pil year. numbered validityAnswer validity validity-back (windowIn pil year);
+  announced-unique = λ pil year. equation (announcedAt pil year);
 }

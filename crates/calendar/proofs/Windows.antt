@@ -8,8 +8,8 @@ use borrow.Author.Tests.{leb-true, ltb-true, ltb-false, lt-ltb, le-ltb, not-fals
 use lib.Dec.{leb, ltb}
 use Rattle.answer.specs.Answer.{given}
 use Rattle.label.specs.Pil.{twentyBits, dayOf, monthOf, hourOf, minuteOf}
-use Rattle.calendar.specs.Calendar.{dayExists, realIn, dateOf, hours, clockAt, clockEnd, opening, closing, opensAt, closesAt, windowAt, windowIn}
-use Rattle.calendar.specs.Laws.{InWindow, announcedAt}
+use Rattle.calendar.specs.Calendar.{dayExists, realIn, dateOf, hours, clockAt, clockEnd, opening, closing, opensAt, closesAt, announcedAt, windowAt, windowIn}
+use Rattle.calendar.specs.Laws.{InWindow}
 use Rattle.calendar.specs.declared.Window.{Window}
 use Rattle.answer.proofs.Cases.{by-test, both-true, both-false}
 use Rattle.calendar.proofs.Counting.{closed-form, dayNumber-lt, dayNumber-years}
@@ -62,7 +62,7 @@ pub within-clock : (pil year : ℕ) → year ≤ 99 → realIn pil year ≡ true
 within-clock pil year h e = (opens-lt-closes pil year, closes-le-end pil year h e)
 
 pub announced-within : (pil year : ℕ) → realIn pil year ≡ true → InWindow pil year (announcedAt pil year)
-unfolding opensAt closesAt closing
+unfolding opensAt closesAt closing announcedAt
 announced-within pil year e =
     let p = realIn-parts pil year e in
     (omega (arith, opening-le (dateOf pil year) (hourOf pil)), omega arith)

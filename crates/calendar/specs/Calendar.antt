@@ -80,6 +80,10 @@ opensAt pil year = opening (dateOf pil year) (hourOf pil)
 unfoldable pub closesAt : ℕ → ℕ → ℕ
 closesAt pil year = closing (dateOf pil year)
 
+-- 'its announced second' (02, #105): that of the PIL's own date and time in the year
+unfoldable pub announcedAt : ℕ → ℕ → ℕ
+announcedAt pil year = clockAt (dateOf pil year) (hourOf pil) + minuteOf pil * 60
+
 abbrev pub windowAt : ℕ → ℕ → Window
 windowAt pil year = record { opens = opensAt pil year; closes = closesAt pil year }
 

@@ -4,17 +4,13 @@ use mathlib.Core.Bool.{true, cond}
 use mathlib.Core.Path.{_≡_}
 use lib.Dec.{leb}
 use Rattle.answer.specs.Answer.{Unique}
-use Rattle.label.specs.Pil.{dayOf, monthOf, hourOf, minuteOf}
-use Rattle.calendar.specs.Calendar.{daysIn, realIn, daysBeforeYear, dayNumber, dateOf, hours, clockAt, clockEnd, opensAt, closesAt, validityAnswer, windowIn}
+use Rattle.label.specs.Pil.{dayOf, monthOf, hourOf}
+use Rattle.calendar.specs.Calendar.{daysIn, realIn, daysBeforeYear, dayNumber, dateOf, hours, clockEnd, opensAt, closesAt, announcedAt, validityAnswer, windowIn}
 use Rattle.calendar.specs.declared.Validity.{Validity}
 
 -- a second of the PIL's window in the year
 abbrev pub InWindow : ℕ → ℕ → ℕ → Type 0
 InWindow pil year second = (opensAt pil year ≤ second) × (second < closesAt pil year)
-
--- the second of the PIL's own date and time
-abbrev pub announcedAt : ℕ → ℕ → ℕ
-announcedAt pil year = clockAt (dateOf pil year) (hourOf pil) + minuteOf pil * 60
 
 pub record Laws : Type 0 where
   -- days are counted right: 1 January 2000 is 0, ..
@@ -44,5 +40,7 @@ pub record Laws : Type 0 where
   pub overlap : (pil year next nextYear : ℕ) → dateOf next nextYear ≡ dateOf pil year + 1
       → (opensAt pil year ≤ opensAt next nextYear) × (closesAt pil year ≤ closesAt next nextYear)
       × (closesAt pil year ≡ opensAt next nextYear + cond (leb (hourOf next) 3) (hours 8) (hours 4))
-  -- any two outcomes that the promise of `window_of` allows are equal
+  -- any two outcomes that the promise of `window_of` allows are equal, ..
   pub window-unique : (pil year : ℕ) → Unique (λ (r : Validity). validityAnswer r ≡ windowIn pil year)
+  -- .. and of `announced_of`
+  pub announced-unique : (pil year : ℕ) → Unique (λ r. r ≡ announcedAt pil year)

@@ -1,8 +1,8 @@
-// When the window of a PIL opens and closes: EN 300 231, clause 9.3.
+// When the window of a PIL opens and closes (EN 300 231, clause 9.3), and the second that it announces.
 use label::pil::parts;
 ghost use mathlib.Core.Bool.{true};
 ghost use mathlib.Core.Path.{_≡_};
-ghost use Rattle.calendar.specs.Calendar.{realIn, opening, closing, validityAnswer, windowIn};
+ghost use Rattle.calendar.specs.Calendar.{realIn, opening, closing, announcedAt, validityAnswer, windowIn};
 ghost use Rattle.calendar.specs.Laws.{Laws};
 
 mod days; // leap years, month lengths, the days of the clock
@@ -18,6 +18,8 @@ pub enum Validity {
     Refused,
     Given(Window),
 }
+
+const MINUTE: u64 = 60;
 
 const HOUR: u64 = 3600;
 
@@ -63,6 +65,15 @@ pub fn window_of(pil: u32, year: u8) -> Validity
     let opens = opening_of(date, p.hour) as u32;
     let closes = closing_of(date) as u32;
     Validity::Given(Window { opens, closes })
+}
+
+// 'Its announced second', of whatever PIL and year: a caller that wants it real asks for the window.
+pub fn announced_of(pil: u32, year: u8) -> u64
+    ensures { λ r. ⌜ r ≡ announcedAt pil year ⌝ }
+{
+    let p = parts(pil);
+    let date = days::day_number(year, p.month, p.day);
+    (date as u64) * DAY + (p.hour as u64) * HOUR + (p.minute as u64) * MINUTE
 }
 
 // The laws of the calendar, as a promise of the crate.

@@ -4,6 +4,7 @@ use desk::Desk;
 use reply::AskAnswer;
 use reply::State;
 
+// 0 where the state has none.
 fn place_of(s: State) -> u8 {
     match s {
         State::Recording { place } => place,

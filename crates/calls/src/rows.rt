@@ -1,4 +1,5 @@
-// A row: byte 0 the call; 1 to 4 a time or a PIL; 5 and 6 a CNI; 7 a tuner, a year or a slot; 8 the length of the packet that follows.
+// A row: byte 0 the call; 1 to 4 a time or a PIL; 5 and 6 a CNI; 7 a tuner, a year or a slot. Of a packet, 8 is the length of what follows;
+// of a timer, 8 is its home tuner, and 9 and 10 are its length.
 ghost use Prim.Native.Nat.{_≤_};
 use answer::four;
 use answer::pair;
@@ -49,8 +50,10 @@ fn wait(d: Desk, time: u32) -> Said {
     }
 }
 
-fn add(d: Desk, cni: u16, pil: u32, year: u8) -> Said {
-    let added = d.add(cni, pil, year);
+fn add(d: Desk, pil: u32, row: [u8; 128]) -> Said {
+    let cni = pair(row[5], row[6]);
+    let length = pair(row[9], row[10]);
+    let added = d.add(cni, pil, row[7], row[8], length);
     let next = added.desk;
     let a = added.answer;
     match a {
@@ -79,7 +82,7 @@ pub(crate) fn call(d: Desk, row: [u8; 128]) -> Said {
     match row[0] {
         1 => packet(d, number, row),
         2 => wait(d, number),
-        3 => add(d, pair(row[5], row[6]), number, row[7]),
+        3 => add(d, number, row),
         4 => cancel(d, row[7] as usize),
         5 => second(d),
         0 | 6..=255 => saying(0, 0, Desk::new()),

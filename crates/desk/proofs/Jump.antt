@@ -12,11 +12,12 @@ use Rattle.answer.proofs.Cases.{both-true, both-false}
 use Rattle.answer.specs.Lists.{some}
 use Rattle.places.specs.Places.{noLabel, standFor, stands, nowhere, lowestFrom}
 use Rattle.matching.specs.Matching.{endedAt, matches, sightOf}
-use Rattle.rule.specs.Rule.{held, nextCopy, nextTimer, isLive, liveTimer}
+use Rattle.clocked.specs.Clocked.{clocked}
+use Rattle.rule.specs.Rule.{clockOr, held, nextCopy, nextTimer, byLabels, byLabelsTimer}
 use Rattle.places.specs.declared.Stamped.{Stamped}
 use Rattle.matching.specs.declared.Booking.{Booking}
 use Rattle.rule.specs.declared.Copy.{Copy}
-use Rattle.rule.specs.declared.Copy.the-variants.{Free, Waiting, Prepared, Recording, RunningOn}
+use Rattle.rule.specs.declared.Copy.the-variants.{Free, Waiting, Prepared, Recording, RunningOn, ByTheClock}
 use Rattle.rule.specs.declared.Timer.{Timer}
 use Rattle.matching.specs.declared.Sight.the-variants.{Nothing}
 use Rattle.sixteen.specs.Sixteen.{noTimer}
@@ -69,42 +70,45 @@ module _ (s : ℕ) (ls : List Stamped) (none : NoneStands s ls) (b : Booking) wh
       rw (none-lowest (λ l. matches s b l && not (l .prf)) noLabel 0 ls (λ p. rw (none-matches p)))
       (rw (none-lowest (matches s b) noLabel 0 ls none-matches))
 
--- what a copy that is not live becomes, held or free
-abbrev rested : Bool → Copy
-rested h = cond h Waiting Free
+  -- what a copy that is neither recording nor running on becomes, held or free: it 'follows from the time alone'
+  abbrev rested : Bool → Copy
+  rested h = cond h (cond (endedAt s b) Waiting (clockOr s ls b Waiting)) Free
 
-rested-dead : (h : Bool) → isLive (rested h) ≡ false
-rested-dead true = refl
-rested-dead false = refl
+  waits-or-clocked : (e c : Bool) → let r = cond e Waiting (cond c ByTheClock Waiting) in (byLabels r ≡ false) × (held r ≡ true)
+  waits-or-clocked true c = (refl, refl)
+  waits-or-clocked false true = (refl, refl)
+  waits-or-clocked false false = (refl, refl)
 
-rested-held : (h : Bool) → held (rested h) ≡ h
-rested-held true = refl
-rested-held false = refl
+  rested-dead : (h : Bool) → byLabels (rested h) ≡ false
+  unfolding clockOr
+  rested-dead true = waits-or-clocked (endedAt s b) (clocked s ls b) .0
+  rested-dead false = refl
 
-cond-same : {A : Type 0} (t : Bool) (x : A) → cond t x x ≡ x
-cond-same true x = refl
-cond-same false x = refl
+  rested-held : (h : Bool) → held (rested h) ≡ h
+  unfolding clockOr
+  rested-held true = waits-or-clocked (endedAt s b) (clocked s ls b) .1
+  rested-held false = refl
 
-nextCopy-rested : (s : ℕ) (ls : List Stamped) → NoneStands s ls → (b : Booking) (c : Copy) → isLive c ≡ false → nextCopy s ls b c ≡ rested (held c)
-unfolding nextCopy
-nextCopy-rested s ls n b Free e = refl
-nextCopy-rested s ls n b Waiting e = rw (none-sight s ls n b) (cond-same (endedAt s b) Waiting)
-nextCopy-rested s ls n b (Prepared v) e = rw (none-sight s ls n b) (cond-same (endedAt s b) Waiting)
-nextCopy-rested s ls n b (Recording p mi) e = absurd (true≢false e)
-nextCopy-rested s ls n b (RunningOn p v) e = absurd (true≢false e)
+  nextCopy-rested : (c : Copy) → byLabels c ≡ false → nextCopy s ls b c ≡ rested (held c)
+  unfolding nextCopy
+  nextCopy-rested Free e = refl
+  nextCopy-rested Waiting e = rw none-sight
+  nextCopy-rested (Prepared v) e = rw none-sight
+  nextCopy-rested (Recording p mi) e = absurd (true≢false e)
+  nextCopy-rested (RunningOn p v) e = absurd (true≢false e)
+  nextCopy-rested ByTheClock e = rw none-sight
+
+  rested-next : (c : Copy) → byLabels c ≡ false → (byLabels (nextCopy s ls b c) ≡ false) × (held (nextCopy s ls b c) ≡ held c)
+  rested-next c e = rw (nextCopy-rested c e) (rested-dead (held c), rested-held (held c))
 
 -- of two moments at which no label stands the later one is enough
 module _ (s s′ : ℕ) (ls : List Stamped) (n : NoneStands s ls) (n′ : NoneStands s′ ls) where
-  nextCopy-skip : (b : Booking) (c : Copy) → isLive c ≡ false → nextCopy s′ ls b (nextCopy s ls b c) ≡ nextCopy s′ ls b c
+  nextCopy-skip : (b : Booking) (c : Copy) → byLabels c ≡ false → nextCopy s′ ls b (nextCopy s ls b c) ≡ nextCopy s′ ls b c
   nextCopy-skip b c e =
-      rw (
-        nextCopy-rested s ls n b c e,
-        nextCopy-rested s′ ls n′ b (rested (held c)) (rested-dead (held c)),
-        nextCopy-rested s′ ls n′ b c e,
-        rested-held (held c),
-      )
+      let k = rested-next s ls n b c e in
+      rw (nextCopy-rested s′ ls n′ b (nextCopy s ls b c) (k .0), nextCopy-rested s′ ls n′ b c e, k .1)
 
-  skip : (ts : List Timer) → None liveTimer noTimer ts → map (nextTimer s′ ls) (map (nextTimer s ls) ts) ≡ map (nextTimer s′ ls) ts
+  skip : (ts : List Timer) → None byLabelsTimer noTimer ts → map (nextTimer s′ ls) (map (nextTimer s ls) ts) ≡ map (nextTimer s′ ls) ts
   unfolding nextTimer
   skip [] h = refl
   skip (t ∷ ts) h = rw (nextCopy-skip (t .booking) (t .copy) (h 0), skip ts (λ i. h (suc i)))
@@ -114,23 +118,23 @@ pub timerAt-moment : (d : Desk) (slot : ℕ) → timerAt (moment d) slot ≡ nex
 unfolding moment nextTimer nextCopy
 timerAt-moment d slot = List·getD-map (nextTimer (d .clock) (d .places)) (d .timers) slot noTimer
 
--- no label stands, and nothing is live
+-- no label stands, and nothing is recording or running on
 pub record Quiet (d : Desk) : Type 0 where
   pub none-stands : NoneStands (d .clock) (d .places)
-  pub none-lives : None liveTimer noTimer (d .timers)
+  pub none-by-labels : None byLabelsTimer noTimer (d .timers)
 
 pub quiet-is : (d : Desk) → quiet d ≡ true → Quiet d
 unfolding quiet stands
 quiet-is d q =
-    let k = both-true (not (some (stands (d .clock)) (d .places))) (not (some liveTimer (d .timers))) q in
+    let k = both-true (not (some (stands (d .clock)) (d .places))) (not (some byLabelsTimer (d .timers))) q in
     record {
       none-stands = none-at (stands (d .clock)) noLabel refl (d .places) (not-true _ (k .0));
-      none-lives = none-at liveTimer noTimer refl (d .timers) (not-true _ (k .1));
+      none-by-labels = none-at byLabelsTimer noTimer refl (d .timers) (not-true _ (k .1));
     }
 
 pub is-quiet : (d : Desk) → Quiet d → quiet d ≡ true
 unfolding quiet
-is-quiet d q = rw (at-none (stands (d .clock)) noLabel (d .places) (q .none-stands), at-none liveTimer noTimer (d .timers) (q .none-lives))
+is-quiet d q = rw (at-none (stands (d .clock)) noLabel (d .places) (q .none-stands), at-none byLabelsTimer noTimer (d .timers) (q .none-by-labels))
 
 -- a second later, too
 pub none-stands-next : (d : Desk) → NoneStands (d .clock) (d .places) → NoneStands (suc (d .clock)) (d .places)
@@ -143,11 +147,10 @@ nextSecond-quiet d q =
     let n = none-stands-next d (q .none-stands) in
     record {
       none-stands = n;
-      none-lives =
+      none-by-labels =
           λ slot.
           let t = timerAt d slot in
-          rw (timerAt-moment (clockedAt s d) slot, nextCopy-rested s (d .places) n (t .booking) (t .copy) (q .none-lives slot))
-          (rested-dead (held (t .copy)));
+          rw (timerAt-moment (clockedAt s d) slot) (rested-next s (d .places) n (t .booking) (t .copy) (q .none-by-labels slot) .0);
     }
 
 -- its seconds pass at once, as a moment at the last of them
@@ -162,7 +165,7 @@ walk-jump (suc n) d q =
     let p′ : NoneStands s (d .places) = none-stands-later c s (d .places) (omega arith) (q .none-stands) in
     walk-jump n (nextSecond d) (nextSecond-quiet d q)
     ∙ ap (λ x. moment (clockedAt x (nextSecond d))) e
-    ∙ ap (λ ts. record { clock = s; places = d .places; timers = ts }) (skip (suc c) s (d .places) p p′ (d .timers) (q .none-lives))
+    ∙ ap (λ ts. record { clock = s; places = d .places; timers = ts }) (skip (suc c) s (d .places) p p′ (d .timers) (q .none-by-labels))
 
 pub quiet-walk : (n : ℕ) (d : Desk) → quiet d ≡ true → quiet (walk n d) ≡ true
 quiet-walk n d q = is-quiet (walk n d) (walk-keeps Quiet nextSecond-quiet n d (quiet-is d q))

@@ -1,6 +1,6 @@
 -- A second moment at the same second changes nothing, so that every moment leaves a settled desk.
 use Prim.Native.Nat.{ℕ, zero, suc, _-_, _≤_}
-use mathlib.Core.Path.{_≡_, refl}
+use mathlib.Core.Path.{_≡_, refl, _∙_}
 use mathlib.Core.Bool.{Bool, true, false, cond, not, _&&_, and-false}
 use mathlib.Core.List.{List, [], _∷_, map}
 use native.Mathlib.Omega.{arith}
@@ -10,11 +10,12 @@ use lib.ListN.{getD}
 use Rattle.answer.proofs.Cases.{both-true}
 use Rattle.places.specs.Places.{noLabel, Found, nowhere, at, lowestFrom, lowest}
 use Rattle.matching.specs.Matching.{endedAt, matches, sightOf}
-use Rattle.rule.specs.Rule.{recordingAt, notLive, prepareFor, fromPrepared, movesOr, fromRecording, runFor, fromRunningOn, goesOn, held, nextCopy, nextTimer}
+use Rattle.clocked.specs.Clocked.{clocked}
+use Rattle.rule.specs.Rule.{recordingAt, clockOr, notLive, prepareFor, fromPrepared, movesOr, fromRecording, runFor, fromRunningOn, goesOn, held, nextCopy, nextTimer}
 use Rattle.places.specs.declared.Stamped.{Stamped}
 use Rattle.matching.specs.declared.Booking.{Booking}
 use Rattle.rule.specs.declared.Copy.{Copy}
-use Rattle.rule.specs.declared.Copy.the-variants.{Free, Waiting, Prepared, Recording, RunningOn}
+use Rattle.rule.specs.declared.Copy.the-variants.{Free, Waiting, Prepared, Recording, RunningOn, ByTheClock}
 use Rattle.rule.specs.declared.Timer.{Timer}
 use Rattle.matching.specs.declared.Sight.{Sight}
 use Rattle.matching.specs.declared.Sight.the-variants.{Nothing, Prepare, Start}
@@ -66,19 +67,35 @@ module _ (s : ℕ) (ls : List Stamped) (b : Booking) where
   unfolding recordingAt fromRecording
   stays-at q m = rw m
 
-  stays-not-live : (g : Sight) → sightOf s ls b ≡ g → Stays (notLive s ls g)
-  stays-not-live (Start q) e = stays-at q (start-matches q e .0)
-  stays-not-live (Prepare q) e = rw (e, le-ltb prepareFor (s - s) (omega arith))
-  stays-not-live Nothing e = rw e
-
-  stays-prepared : (v : ℕ) (g : Sight) → sightOf s ls b ≡ g → Stays (fromPrepared s ls v g)
-  stays-prepared v (Start q) e = stays-at q (start-matches q e .0)
-  stays-prepared v (Prepare q) e = go (ltb prepareFor (s - v)) refl
+  -- where nothing starts a copy it is by the clock, or as is said next
+  stays-clock : (other next : Copy) → notLive s ls b (sightOf s ls b) ≡ clockOr s ls b other → (clocked s ls b ≡ false → Stays next) →
+      Stays (clockOr s ls b next)
+  unfolding clockOr
+  stays-clock other next e h = go (clocked s ls b) refl
     where
-      go : (t : Bool) → ltb prepareFor (s - v) ≡ t → Stays (cond t (recordingAt ls q) (Prepared v))
-      go true d = stays-at q (prepare-matches q e)
-      go false d = rw (e, d)
-  stays-prepared v Nothing e = rw e
+      go : (t : Bool) → clocked s ls b ≡ t → Stays (cond t ByTheClock next)
+      go true k = e ∙ rw k
+      go false k = h k
+
+  stays-waiting : sightOf s ls b ≡ Nothing → Stays (clockOr s ls b Waiting)
+  unfolding clockOr
+  stays-waiting e = stays-clock Waiting Waiting (rw e) (λ k. rw (e, k))
+
+  stays-not-live : (g : Sight) → sightOf s ls b ≡ g → Stays (notLive s ls b g)
+  unfolding clockOr
+  stays-not-live (Start q) e = stays-at q (start-matches q e .0)
+  stays-not-live (Prepare q) e = stays-clock (Prepared s) (Prepared s) (rw e) (λ k. rw (e, k, le-ltb prepareFor (s - s) (omega arith)))
+  stays-not-live Nothing e = stays-waiting e
+
+  stays-prepared : (v : ℕ) (g : Sight) → sightOf s ls b ≡ g → Stays (fromPrepared s ls b v g)
+  unfolding clockOr
+  stays-prepared v (Start q) e = stays-at q (start-matches q e .0)
+  stays-prepared v (Prepare q) e = stays-clock (Prepared s) _ (rw e) (λ k. go k (ltb prepareFor (s - v)) refl)
+    where
+      go : clocked s ls b ≡ false → (t : Bool) → ltb prepareFor (s - v) ≡ t → Stays (cond t (recordingAt ls q) (Prepared v))
+      go k true d = stays-at q (prepare-matches q e)
+      go k false d = rw (e, k, d)
+  stays-prepared v Nothing e = stays-waiting e
 
   -- nothing starts it
   abbrev NoStart : Type 0
@@ -89,12 +106,12 @@ module _ (s : ℕ) (ls : List Stamped) (b : Booking) where
   stays-moves (Prepare q) e next h = h (λ c. rw e)
   stays-moves Nothing e next h = h (λ c. rw e)
 
-  stays-running : (p v : ℕ) (t : Bool) → ltb (s - v) runFor ≡ t → NoStart → Stays (cond t (RunningOn p v) (notLive s ls (sightOf s ls b)))
+  stays-running : (p v : ℕ) (t : Bool) → ltb (s - v) runFor ≡ t → NoStart → Stays (cond t (RunningOn p v) (notLive s ls b (sightOf s ls b)))
   unfolding fromRunningOn
   stays-running p v true e h = rw e (h (RunningOn p v))
   stays-running p v false e h = stays-not-live (sightOf s ls b) refl
 
-  stays-left : (p : ℕ) (mi : Bool) → NoStart → Stays (cond mi (notLive s ls (sightOf s ls b)) (RunningOn p s))
+  stays-left : (p : ℕ) (mi : Bool) → NoStart → Stays (cond mi (notLive s ls b (sightOf s ls b)) (RunningOn p s))
   stays-left p true h = stays-not-live (sightOf s ls b) refl
   stays-left p false h = stays-running p s true (lt-ltb (s - s) runFor (omega arith)) h
 
@@ -106,13 +123,14 @@ module _ (s : ℕ) (ls : List Stamped) (b : Booking) where
   goesOn-stays (Recording p mi) = go (matches s b (getD ls p noLabel)) refl
     where
       next : Copy
-      next = cond mi (notLive s ls (sightOf s ls b)) (RunningOn p s)
+      next = cond mi (notLive s ls b (sightOf s ls b)) (RunningOn p s)
 
       go : (t : Bool) → matches s b (getD ls p noLabel) ≡ t → Stays (cond t (recordingAt ls p) (movesOr ls (sightOf s ls b) next))
       go true e = stays-at p e
       go false e = stays-moves (sightOf s ls b) refl next (stays-left p mi)
+  goesOn-stays ByTheClock = stays-not-live (sightOf s ls b) refl
   goesOn-stays (RunningOn p v) =
-      stays-moves (sightOf s ls b) refl (cond (ltb (s - v) runFor) (RunningOn p v) (notLive s ls (sightOf s ls b)))
+      stays-moves (sightOf s ls b) refl (cond (ltb (s - v) runFor) (RunningOn p v) (notLive s ls b (sightOf s ls b)))
       (stays-running p v (ltb (s - v) runFor) refl)
 
   pub nextCopy-open : endedAt s b ≡ false → (c : Copy) → nextCopy s ls b c ≡ goesOn s ls b c

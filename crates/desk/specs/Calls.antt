@@ -12,11 +12,12 @@ use Rattle.calendar.specs.declared.Window.{Window}
 use Rattle.answer.specs.Lists.{some}
 use Rattle.places.specs.Places.{noLabel, heardAt, Found, flag}
 use Rattle.matching.specs.Matching.{endedAt}
+use Rattle.clocked.specs.Clocked.{outOfRange}
 use Rattle.rule.specs.Rule.{held}
 use Rattle.matching.specs.declared.Booking.{Booking}
 use Rattle.rule.specs.declared.Timer.{Timer}
 use Rattle.rule.specs.declared.Copy.{Copy}
-use Rattle.rule.specs.declared.Copy.the-variants.{Free, Waiting, Prepared, Recording, RunningOn}
+use Rattle.rule.specs.declared.Copy.the-variants.{Free, Waiting, Prepared, Recording, RunningOn, ByTheClock}
 use Rattle.reply.specs.Numbers.{Says}
 use Rattle.sixteen.specs.Sixteen.{noTimer, active, sameBooking, roomAt, isNowhere, slotOf}
 use Rattle.desk.specs.Moments.{moment, nextSecond, passTo, walkedTo}
@@ -83,12 +84,13 @@ withTimer slot t d = record { clock = d .clock; places = d .places; timers = set
 
 abbrev pub addRows : Booking → Desk → Window → List Row
 addRows b d w =
-    (leb (w .closes) (d .clock), 12)  -- window has ended
+    (outOfRange b, 17)  -- home tuner or length out of range
+    ∷ (leb (w .closes) (d .clock), 12)  -- window has ended
     ∷ (some (λ t. active (d .clock) t && sameBooking b (t .booking)) (d .timers), 13)  -- the same timer is held and not ended
     ∷ (isNowhere (roomIn d), 14)  -- all sixteen slots held and not ended
     ∷ []
 
--- 'add: 11 to 14'; 11 is the calendar's
+-- 'add: 11 to 14', with 17 'between 11 and 12' (02, #105); 11 is the calendar's
 unfoldable pub addOf : Booking → Desk → Answer Told
 addOf b d =
     let slot = slotOf (roomIn d) in
@@ -113,8 +115,9 @@ copySays Waiting = record { state = 0; place = 0 }
 copySays (Prepared v) = record { state = 1; place = 0 }
 copySays (Recording p mi) = record { state = 2; place = p }
 copySays (RunningOn p v) = record { state = 3; place = p }
+copySays ByTheClock = record { state = 5; place = 0 }
 
--- 'asking a slot gives waiting, prepared, recording with place, running on with place, or ended'
+-- 'asking a slot gives waiting, prepared, recording with place, running on with place, or ended', or 'by the clock' (02, #105)
 unfoldable pub askOf : ℕ → Desk → Answer Says
 askOf slot d =
     let t = timerAt d slot in

@@ -5,7 +5,7 @@ use mathlib.Core.List.{map}
 use lib.ListN.{replicate}
 use Rattle.answer.specs.Lists.{some, count}
 use Rattle.places.specs.Places.{noLabel, stands}
-use Rattle.rule.specs.Rule.{nextTimer, liveTimer}
+use Rattle.rule.specs.Rule.{nextTimer, byLabelsTimer, liveTimer}
 use Rattle.sixteen.specs.Sixteen.{noTimer}
 use Rattle.desk.specs.declared.Desk.{Desk}
 
@@ -34,11 +34,11 @@ walk (suc n) d = walk n (nextSecond d)
 unfoldable pub passTo : ℕ → Desk → Desk
 passTo t d = walk (t - d .clock) d
 
--- 'no label stands and nothing is live'
+-- 'a wait's walk now stops when no label stands and nothing is recording or running on; clock copies then follow from the time alone' (02, #105)
 unfoldable pub quiet : Desk → Bool
-quiet d = not (some (stands (d .clock)) (d .places)) && not (some liveTimer (d .timers))
+quiet d = not (some (stands (d .clock)) (d .places)) && not (some byLabelsTimer (d .timers))
 
--- 'the least number after which no label stands and nothing is live, or the whole wait if that is less', of a wait of n seconds
+-- 'the least number after which' the desk is quiet, 'or the whole wait if that is less', of a wait of n seconds
 unfoldable pub walkedIn : ℕ → Desk → ℕ
 walkedIn zero d = 0
 walkedIn (suc n) d = let more = suc (walkedIn n (nextSecond d)) in cond (quiet d) 0 more

@@ -21,11 +21,12 @@ fn state_of(c: Copy) -> State
         Copy::Prepared { since: _ } => State::Prepared,
         Copy::Recording { place, mi: _ } => State::Recording { place },
         Copy::RunningOn { place, since: _ } => State::RunningOn { place },
+        Copy::ByTheClock => State::ByTheClock,
     }
 }
 
 impl Desk {
-    // 'Asking a slot gives waiting, prepared, recording with place, running on with place, or ended.'
+    // 'Asking a slot gives waiting, prepared, recording with place, running on with place, or ended', or 'by the clock'.
     pub fn ask(self, slot: usize) -> AskAnswer
         ensures { λ r. ⌜ askAnswer r ≡ askOf slot self ⌝ }
     {

@@ -14,7 +14,7 @@ use places::standing::no_label;
 use reply::SecondAnswer;
 use reply::WaitAnswer;
 use sixteen::slots::all_next;
-use sixteen::slots::any_live;
+use sixteen::slots::any_by_labels;
 use sixteen::slots::no_timer;
 
 pub(crate) const CLOCK_END: u32 = 3155774400;
@@ -67,19 +67,19 @@ impl Desk {
         self.moment_at(self.clock)
     }
 
-    // 'No label stands and nothing is live.'
+    // 'No label stands and nothing is recording or running on.'
     fn quiet(self) -> bool
         ensures { λ r. ⌜ r ≡ quiet self ⌝ }
     {
         let places = self.places;
         let timers = self.timers;
         let up = any_stands(self.clock, places);
-        let live = any_live(timers);
-        !up & !live
+        let busy = any_by_labels(timers);
+        !up & !busy
     }
 
-    // 'A call at t first passes every second up to t.' Of a quiet desk the moment at t leaves what all those seconds would:
-    // a label that has lapsed stays so, and a copy that is prepared falls back to waiting.
+    // 'A call at t first passes every second up to t.' Of a quiet desk the moment at t leaves what all those seconds would: a label that has
+    // lapsed stays so, a copy that is prepared falls back to waiting, and 'clock copies then follow from the time alone'.
     pub(crate) fn pass(self, t: u32) -> Pass
         ensures { λ r. ⌜ (r .walked ≡ walkedTo t self) × (r .desk ≡ passTo t self) ⌝ }
     {

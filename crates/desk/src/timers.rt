@@ -1,6 +1,7 @@
 // Adding and cancelling.
 ghost use mathlib.Core.Path.{_≡_};
 ghost use Rattle.answer.specs.Answer.{firstOf, number, after};
+ghost use Rattle.matching.specs.declared.Booking.{Booking};
 ghost use Rattle.rule.specs.declared.Copy.the-variants.{Waiting};
 ghost use Rattle.sixteen.specs.Sixteen.{slotOf};
 ghost use Rattle.desk.specs.Moments.{moment};
@@ -12,6 +13,7 @@ use crate::Cancelled;
 use crate::Desk;
 use calendar::Validity;
 use calendar::Window;
+use clocked::out_of_range;
 use matching::Booking;
 use reply::AddAnswer;
 use reply::CancelAnswer;
@@ -48,27 +50,37 @@ impl Desk {
         }
     }
 
-    // 'Add: 11 to 14.'
-    pub fn add(self, cni: u16, pil: u32, year: u8) -> Added
-        ensures { λ r. ⌜ (addAnswer (r .answer) ≡ saidBy (addOf (record { cni = cni; pil = pil; year = year }) self))
-            × (r .desk ≡ leftBy self (addOf (record { cni = cni; pil = pil; year = year }) self)) ⌝ }
+    // 'Add: 11 to 14', with 17 'between 11 and 12'.
+    pub fn add(self, cni: u16, pil: u32, year: u8, tuner: u8, length: u16) -> Added
+        ensures { λ r. ⌜ (let b : Booking = record { cni = cni; pil = pil; year = year; tuner = tuner; length = length } in
+            (addAnswer (r .answer) ≡ saidBy (addOf b self)) × (r .desk ≡ leftBy self (addOf b self))) ⌝ }
     {
         let validity = calendar::window_of(pil, year);
         match validity {
             Validity::Refused => self.not_added(AddAnswer::NotReal),
             Validity::Given(w) => {
-                let b = Booking { pil, cni, year };
+                let b = Booking {
+                    pil,
+                    cni,
+                    length,
+                    year,
+                    tuner,
+                };
                 self.book(b, w)
             }
         }
     }
 
-    // A timer whose window is w: 12, 13 and 14, in this order.
+    // A timer whose window is w: 17, 12, 13 and 14, in this order.
     fn book(self, b: Booking, w: Window) -> Added
         ensures { λ r. ⌜ (let slot = slotOf (roomIn self) in
             let o = firstOf (addRows b self w) (record { says = slot; desk = moment (withTimer slot (record { booking = b; copy = Waiting }) self) }) in
             (addAnswer (r .answer) ≡ saidBy o) × (r .desk ≡ leftBy self o)) ⌝ }
     {
+        let wide = out_of_range(b);
+        if wide {
+            return self.not_added(AddAnswer::OutOfRange);
+        }
         if w.closes <= self.clock {
             return self.not_added(AddAnswer::Ended);
         }

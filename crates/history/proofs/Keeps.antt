@@ -17,24 +17,33 @@ use Rattle.answer.proofs.Cases.{both-true}
 use Rattle.answer.specs.Lists.{some}
 use Rattle.places.specs.Places.{noLabel, stands, stamped, renewed, isContinuation, heardAt}
 use Rattle.matching.specs.Matching.{openAt, endedAt}
+use Rattle.clocked.specs.Clocked.{outOfRange, inLength}
+use Rattle.clocked.proofs.Parts.{clocked-parts}
 use Rattle.rule.specs.Rule.{held, nextCopy, nextTimer, isLive}
 use Rattle.places.specs.declared.Stamped.{Stamped}
 use Rattle.matching.specs.declared.Booking.{Booking}
-use Rattle.rule.specs.declared.Copy.the-variants.{Waiting}
+use Rattle.rule.specs.declared.Copy.the-variants.{Waiting, ByTheClock}
 use Rattle.rule.specs.declared.Timer.{Timer}
 use Rattle.desk.specs.declared.Desk.{Desk}
 use Rattle.sixteen.specs.Sixteen.{noTimer, active, sameBooking}
 use Rattle.desk.specs.Moments.{fresh, moment, clockedAt, nextSecond, walk, passTo}
 use Rattle.desk.specs.Calls.{placeOf, withLabel, withTimer, timerAt}
-use Rattle.desk.proofs.Settle.{moment-settled, walk-keeps}
+use Rattle.desk.proofs.Settle.{Settled, moment-settled, walk-keeps}
 use Rattle.desk.proofs.Jump.{none-at, timerAt-moment}
 use Rattle.history.specs.Run.{Call, outcome, left, deskAfter, reached}
 use Rattle.history.specs.Laws.{SinceBy, Sound}
 use Rattle.history.proofs.Lists.{getD-set, getD-same}
 use Rattle.history.proofs.Windows.{open-later, not-ended-before}
 use Rattle.history.proofs.Waits.{passTo-clock}
-use Rattle.history.proofs.Next.{Next, next-is, next-held, next-live, next-since, next-within, since-later}
+use Rattle.history.proofs.Next.{Next, next-is, next-held, next-live, next-since, next-within, next-clocked, since-later}
 use Rattle.history.proofs.Steps.{Step, same, hears, waits, passes, adds, cancels, step}
+
+untrue : {P : Type 0} → false ≡ true → P
+untrue e = absurd (true≢false (sym e))
+
+-- its PIL is real in its year
+abbrev Real : Booking → Type 0
+Real b = (w : Window) × (windowIn (b .pil) (b .year) ≡ given w)
 
 -- what holds before a moment: as Sound, but that a live copy's window may have ended by now, and a prepared copy's 60 seconds
 record Pre (d : Desk) : Type 0 where
@@ -45,8 +54,8 @@ record Pre (d : Desk) : Type 0 where
       openAt (d .clock) (timerAt d slot .booking) ≡ true
   pub no-twins : (i j : ℕ) → i < j → active (d .clock) (timerAt d i) ≡ true → active (d .clock) (timerAt d j) ≡ true →
       sameBooking (timerAt d i .booking) (timerAt d j .booking) ≡ false
-  pub real : (slot : ℕ) → held (timerAt d slot .copy) ≡ true →
-      (w : Window) × (windowIn (timerAt d slot .booking .pil) (timerAt d slot .booking .year) ≡ given w)
+  pub real : (slot : ℕ) → held (timerAt d slot .copy) ≡ true → Real (timerAt d slot .booking)
+  pub in-range : (slot : ℕ) → held (timerAt d slot .copy) ≡ true → outOfRange (timerAt d slot .booking) ≡ false
 
 -- ── a moment ───────────────────────────────────────────────────────────────────────────────────────────────────────
 module _ (d : Desk) (slot : ℕ) where
@@ -58,8 +67,15 @@ module _ (d : Desk) (slot : ℕ) where
   unfolding nextTimer
   copy-moment = rw (timerAt-moment d slot) (next-is (d .clock) (d .places) (timerAt d slot .booking) (timerAt d slot .copy))
 
+  -- a copy of a settled desk goes on as it is
+  pub settled-copy : Settled d → Next (d .clock) (d .places) (timerAt d slot .booking) (timerAt d slot .copy) (timerAt d slot .copy)
+  settled-copy h = rw h at copy-moment
+
   held-moment : held (timerAt (moment d) slot .copy) ≡ held (timerAt d slot .copy)
   held-moment = next-held _ _ _ copy-moment
+
+  length-moment : timerAt (moment d) slot .copy ≡ ByTheClock → inLength (d .clock) (timerAt d slot .booking) ≡ true
+  length-moment e = clocked-parts (d .clock) (d .places) (timerAt d slot .booking) (next-clocked _ _ _ copy-moment e .2) .1
 
   active-moment : active (d .clock) (timerAt (moment d) slot) ≡ active (d .clock) (timerAt d slot)
   active-moment = rw (held-moment, booking-moment)
@@ -72,8 +88,10 @@ sound-moment d h = record {
   seconds = λ slot. next-since _ _ _ (copy-moment d slot) (h .seconds slot);
   prepared = λ slot. next-within _ _ _ (copy-moment d slot);
   open-window = λ slot e. rw (booking-moment d slot) (next-live _ _ _ (copy-moment d slot) (h .open-window slot) e);
+  in-length = λ slot e. rw (booking-moment d slot) (length-moment d slot e);
   no-twins = λ i j l a b. rw (booking-moment d i, booking-moment d j) (h .no-twins i j l (sym (active-moment d i) ∙ a) (sym (active-moment d j) ∙ b));
   real = λ slot e. rw (booking-moment d slot) (h .real slot (sym (held-moment d slot) ∙ e));
+  in-range = λ slot e. rw (booking-moment d slot) (h .in-range slot (sym (held-moment d slot) ∙ e));
   settled = moment-settled d;
 }
 
@@ -92,6 +110,7 @@ pre-at s d h k = record {
   open-window = λ slot e live. open-later (timerAt d slot .booking) (d .clock) s k (h .open-window slot live) e;
   no-twins = λ i j m a b. h .no-twins i j m (active-before (d .clock) s k (timerAt d i) a) (active-before (d .clock) s k (timerAt d j) b);
   real = h .real;
+  in-range = h .in-range;
 }
 
 pre-now : (d : Desk) → Sound d → Pre d
@@ -132,6 +151,7 @@ pre-label tuner l d h =
       open-window = h .open-window;
       no-twins = h .no-twins;
       real = h .real;
+      in-range = h .in-range;
     }
 
 eqb-sym : (a b : ℕ) → eqb a b ≡ eqb b a
@@ -147,7 +167,7 @@ sameBooking-sym a b = rw (eqb-sym (a .cni) (b .cni), eqb-sym (a .pil) (b .pil), 
 -- a timer that is not live in a slot
 module _ (d : Desk) (slot : ℕ) (t : Timer) (h : Pre d) (dead : isLive (t .copy) ≡ false) (since : SinceBy (d .clock) (t .copy))
     (apart : active (d .clock) t ≡ true → (i : ℕ) → active (d .clock) (timerAt d i) ≡ true → sameBooking (t .booking) (timerAt d i .booking) ≡ false)
-    (t-real : held (t .copy) ≡ true → (w : Window) × (windowIn (t .booking .pil) (t .booking .year) ≡ given w)) where
+    (t-real : held (t .copy) ≡ true → Real (t .booking)) (t-in-range : held (t .copy) ≡ true → outOfRange (t .booking) ≡ false) where
   pre-timer : Pre (withTimer slot t d)
   pre-timer =
       let at-slot = getD-set noTimer t (d .timers) slot in
@@ -164,6 +184,7 @@ module _ (d : Desk) (slot : ℕ) (t : Timer) (h : Pre d) (dead : isLive (t .copy
           ]
         ];
         real = λ i. elim (at-slot i) [ inl e ↦ rw (e .1) t-real | inr e ↦ rw e (h .real i) ];
+        in-range = λ i. elim (at-slot i) [ inl e ↦ rw (e .1) t-in-range | inr e ↦ rw e (h .in-range i) ];
       }
 
 module _ (d : Desk) (h : Sound d) where
@@ -174,22 +195,23 @@ module _ (d : Desk) (h : Sound d) where
 
   pub keeps : {c : Call} {e : Desk} → Step d c e → Sound e
   keeps same = h
-  keeps (hears tuner t l k m) = sound-moment _ (pre-label tuner l (passTo t d) (pre-now (passTo t d) (sound-pass t d h)))
+  keeps (hears tuner t l r k m) = sound-moment _ (pre-label tuner l (passTo t d) (pre-now (passTo t d) (sound-pass t d h)))
   keeps (waits t k m) = sound-moment (passTo t d) (pre-now (passTo t d) (sound-pass t d h))
   keeps (passes k) = sound-second d h
-  keeps (adds b w slot e alone room) =
-      sound-moment _ (pre-timer d slot (record { booking = b; copy = Waiting }) (pre-now d h) refl tt (λ a. unlike b alone) (λ k. (w, e)))
+  keeps (adds b w slot e range alone room) =
+      let t : Timer = record { booking = b; copy = Waiting } in
+      sound-moment _ (pre-timer d slot t (pre-now d h) refl tt (λ a. unlike b alone) (λ k. (w, e)) (λ k. range))
   keeps (cancels slot e) =
-      sound-moment _ (pre-timer d slot noTimer (pre-now d h) refl tt (λ a. absurd (true≢false (sym a))) (λ k. absurd (true≢false (sym k))))
+      sound-moment _ (pre-timer d slot noTimer (pre-now d h) refl tt untrue untrue untrue)
 
 -- no call passes the clock's end
 within : (d : Desk) → d .clock ≤ clockEnd → {c : Call} {e : Desk} → Step d c e → e .clock ≤ clockEnd
 unfolding moment nextSecond
 within d h same = h
-within d h (hears tuner t l k m) = rw (passTo-clock d t k) m
+within d h (hears tuner t l r k m) = rw (passTo-clock d t k) m
 within d h (waits t k m) = rw (passTo-clock d t k) m
 within d h (passes k) = k
-within d h (adds b w slot e alone room) = h
+within d h (adds b w slot e range alone room) = h
 within d h (cancels slot e) = h
 
 -- what each call keeps, all of them keep
@@ -207,9 +229,11 @@ sound-fresh =
       stamps = λ p. rw (getD-same noLabel 16 p) (omega arith);
       seconds = λ slot. rw (free slot) tt;
       prepared = λ slot. rw (free slot) tt;
-      open-window = λ slot. rw (free slot) (λ k. absurd (true≢false (sym k)));
-      no-twins = λ i j l. rw (free i, free j) (λ a. absurd (true≢false (sym a)));
-      real = λ slot. rw (free slot) (λ k. absurd (true≢false (sym k)));
+      open-window = λ slot. rw (free slot) untrue;
+      no-twins = λ i j l. rw (free i, free j) untrue;
+      in-length = λ slot. rw (free slot) (λ k. cc);
+      real = λ slot. rw (free slot) untrue;
+      in-range = λ slot. rw (free slot) untrue;
       settled = refl;
     }
 

@@ -3,12 +3,15 @@ pub mod Windows
 pub mod Refused
 pub mod Walked
 pub mod Waits
+pub mod Sees
 pub mod Next
 pub mod Steps
 pub mod Keeps
 pub mod OneCopy
-pub mod Sees
+pub mod Chain
 pub mod Prepared
+pub mod Clock
+pub mod Silent
 pub mod Short
 pub mod Stays
 pub mod Proved

@@ -10,7 +10,7 @@ use Rattle.answer.specs.Lists.{count}
 use Rattle.answer.proofs.Cases.{both-true}
 use Rattle.rule.specs.Rule.{held, isLive, liveTimer}
 use Rattle.rule.specs.declared.Copy.{Copy}
-use Rattle.rule.specs.declared.Copy.the-variants.{Free, Waiting, Prepared, Recording, RunningOn}
+use Rattle.rule.specs.declared.Copy.the-variants.{Free, Waiting, Prepared, Recording, RunningOn, ByTheClock}
 use Rattle.desk.specs.declared.Desk.{Desk}
 use Rattle.sixteen.specs.Sixteen.{noTimer, active, sameBooking}
 use Rattle.desk.specs.Calls.{timerAt}
@@ -24,6 +24,7 @@ live-held Waiting e = refl
 live-held (Prepared v) e = refl
 live-held (Recording p mi) e = refl
 live-held (RunningOn p v) e = refl
+live-held ByTheClock e = refl
 
 -- a live copy's timer is held and not ended
 pub live-active : (d : Desk) → Sound d → (slot : ℕ) → liveTimer (timerAt d slot) ≡ true → active (d .clock) (timerAt d slot) ≡ true

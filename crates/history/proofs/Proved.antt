@@ -10,7 +10,10 @@ use Rattle.history.proofs.Short.{walked-short}
 use Rattle.history.proofs.Keeps.{sound-walk, sound-reached, clock-within}
 use Rattle.history.proofs.OneCopy.{one-copy, no-two}
 use Rattle.history.proofs.Stays.{stays, starts}
+use Rattle.history.proofs.Chain.{each-moment}
 use Rattle.history.proofs.Prepared.{after-60, since, prepares, break}
+use Rattle.history.proofs.Clock.{by-the-clock, no-gap, taken-over, clock-ends-prepared}
+use Rattle.history.proofs.Silent.{silent-home, never-hears}
 
 pub laws : Laws
 unfolding walkedTo
@@ -32,4 +35,11 @@ laws =
       since = since;
       prepares = prepares;
       break = break;
+      each-moment = each-moment;
+      by-the-clock = λ cs n. by-the-clock _ (sound-walk n (reached cs) (sound-reached cs) .settled);
+      silent-home = λ cs. silent-home (reached cs) (sound-reached cs);
+      never-hears = λ cs n tuner. never-hears tuner cs n;
+      no-gap = λ cs n. no-gap _ (sound-walk n (reached cs) (sound-reached cs) .settled);
+      taken-over = λ s q ls b. taken-over s ls b q;
+      clock-ends-prepared = λ s v ls b. clock-ends-prepared s ls b v;
     }

@@ -6,7 +6,7 @@ use mathlib.Core.List.{List, [], _∷_}
 use native.Mathlib.Omega.{arith}
 use lib.ListN.{getD}
 use Rattle.answer.proofs.Cases.{by-test}
-use Rattle.places.specs.Places.{noLabel, stands, nowhere, at, lowestFrom}
+use Rattle.places.specs.Places.{noLabel, stands, nowhere, at, lowestFrom, lowest}
 use Rattle.matching.specs.Matching.{matches, sightOf}
 use Rattle.places.specs.declared.Stamped.{Stamped}
 use Rattle.matching.specs.declared.Booking.{Booking}
@@ -15,7 +15,7 @@ use Rattle.matching.specs.declared.Sight.the-variants.{Nothing, Prepare, Start}
 use Rattle.matching.proofs.Sights.{seen-is}
 use Rattle.desk.proofs.Settle.{start-matches, prepare-matches}
 use Rattle.desk.proofs.Jump.{None}
-use Rattle.history.specs.Prepared.{OnlyPrf1, LowestMatch}
+use Rattle.history.specs.Prepared.{NoPrf0, OnlyPrf1, LowestMatch}
 
 -- ── what is not found ──────────────────────────────────────────────────────────────────────────────────────────────
 module _ {A : Type 0} (f : A → Bool) (z : A) where
@@ -43,11 +43,8 @@ module _ {A : Type 0} (f : A → Bool) (z : A) where
       go false d k ih (suc p) l = ih k p (omega arith)
 
 -- ── what is seen ───────────────────────────────────────────────────────────────────────────────────────────────────
-abbrev pub NoneStarts : ℕ → List Stamped → Booking → Type 0
-NoneStarts s ls b = (q : ℕ) → matches s b (getD ls q noLabel) ≡ true → getD ls q noLabel .prf ≡ true
-
 module _ (s : ℕ) (ls : List Stamped) (b : Booking) where
-  pub no-start : NoneStarts s ls b → (q : ℕ) → sightOf s ls b ≡ Start q → ⊥
+  pub no-start : NoPrf0 s ls b → (q : ℕ) → sightOf s ls b ≡ Start q → ⊥
   no-start none q e = let m = start-matches s ls b q e in true≢false (sym (none q (m .0)) ∙ m .1)
 
   pub sees-prepare : OnlyPrf1 s ls b → (q : ℕ) × (sightOf s ls b ≡ Prepare q) × LowestMatch s ls b q
@@ -71,8 +68,12 @@ module _ (s : ℕ) (ls : List Stamped) (b : Booking) where
   prf-1 : (l : Stamped) → (matches s b l && not (l .prf)) ≡ false → matches s b l ≡ true → l .prf ≡ true
   prf-1 l n m = by-test (l .prf) (λ e. e) (λ e. absurd (true≢false (rw (m, e) at n)))
 
-  pub prepare-only : (q : ℕ) → sightOf s ls b ≡ Prepare q → OnlyPrf1 s ls b
+  none-starts : lowest (λ l. matches s b l && not (l .prf)) ls ≡ nowhere → NoPrf0 s ls b
   unfolding matches stands
-  prepare-only q e =
-      let none = nowhere-none (λ l. matches s b l && not (l .prf)) noLabel refl 0 ls (seen-is s ls b (Prepare q) e .0) in
-      record { place = q; matching = prepare-matches s ls b q e; only = λ r. prf-1 (getD ls r noLabel) (none r) }
+  none-starts e q = prf-1 (getD ls q noLabel) (nowhere-none (λ l. matches s b l && not (l .prf)) noLabel refl 0 ls e q)
+
+  pub prepare-only : (q : ℕ) → sightOf s ls b ≡ Prepare q → OnlyPrf1 s ls b
+  prepare-only q e = record { place = q; matching = prepare-matches s ls b q e; only = none-starts (seen-is s ls b (Prepare q) e .0) }
+
+  pub nothing-starts : sightOf s ls b ≡ Nothing → NoPrf0 s ls b
+  nothing-starts e = none-starts (seen-is s ls b Nothing e .0)

@@ -8,11 +8,11 @@ use borrow.Author.Tests.{lt-leb}
 use lib.ListN.{getD}
 use Rattle.places.specs.Places.{noLabel, standFor, stands}
 use Rattle.matching.specs.Matching.{matches}
-use Rattle.rule.specs.Rule.{runFor, isLive}
+use Rattle.rule.specs.Rule.{runFor, byLabels}
 use Rattle.places.specs.declared.Stamped.{Stamped}
 use Rattle.matching.specs.declared.Booking.{Booking}
 use Rattle.rule.specs.declared.Copy.{Copy}
-use Rattle.rule.specs.declared.Copy.the-variants.{Free, Waiting, Prepared, Recording, RunningOn}
+use Rattle.rule.specs.declared.Copy.the-variants.{Free, Waiting, Prepared, Recording, RunningOn, ByTheClock}
 use Rattle.desk.specs.declared.Desk.{Desk}
 use Rattle.desk.specs.Moments.{moment, clockedAt, nextSecond, walk, quiet, walkedIn}
 use Rattle.desk.specs.Calls.{timerAt}
@@ -20,7 +20,7 @@ use Rattle.desk.proofs.Settle.{walk-keeps}
 use Rattle.desk.proofs.Jump.{NoneStands, none-stands-next, none-matches, is-quiet, walk-add, walk-clock, walk-places}
 use Rattle.history.specs.Laws.{SinceBy, Sound}
 use Rattle.history.proofs.Walked.{walkedIn-le}
-use Rattle.history.proofs.Next.{Next, free, waits, prepares, still, at-last, starts, stays, leaves, runs, next-since, since-later}
+use Rattle.history.proofs.Next.{Next, free, waits, by-clock, prepares, still, at-last, starts, stays, leaves, runs, next-since, since-later}
 use Rattle.history.proofs.Keeps.{copy-moment}
 
 -- where no label stands: no copy records, and each run-on is from u or before
@@ -30,6 +30,7 @@ Spent u Waiting = Unit {0}
 Spent u (Prepared v) = Unit {0}
 Spent u (Recording p mi) = ⊥
 Spent u (RunningOn p v) = v ≤ u
+Spent u ByTheClock = Unit {0}
 
 module _ (s : ℕ) (ls : List Stamped) (b : Booking) (none : NoneStands s ls) where
   none-here : {P : Type 0} (q : ℕ) → matches s b (getD ls q noLabel) ≡ true → P
@@ -39,22 +40,24 @@ module _ (s : ℕ) (ls : List Stamped) (b : Booking) (none : NoneStands s ls) wh
   next-spent : (u : ℕ) {c n : Copy} → Next s ls b c n → ((p : ℕ) (mi : Bool) → c ≡ Recording p mi → s ≤ u) →
       ((p v : ℕ) → c ≡ RunningOn p v → v ≤ u) → Spent u n
   next-spent u (free e) x y = tt
-  next-spent u (waits k) x y = tt
-  next-spent u (prepares g k i) x y = tt
-  next-spent u (still v g e k) x y = tt
+  next-spent u (waits f k) x y = tt
+  next-spent u (by-clock f k n) x y = tt
+  next-spent u (prepares f g k i) x y = tt
+  next-spent u (still v f g e k) x y = tt
   next-spent u (at-last q v e k m) x y = none-here q m
-  next-spent u (starts q k m f) x y = none-here q m
+  next-spent u (starts q k m z) x y = none-here q m
   next-spent u (stays q mi e m) x y = none-here q m
   next-spent u (leaves p mi e o) x y = x p mi e
   next-spent u (runs p v e o r) x y = y p v e
 
-  spent-dead : (u : ℕ) → u + runFor ≤ s → {c n : Copy} → Next s ls b c n → Spent u c → isLive n ≡ false
+  spent-dead : (u : ℕ) → u + runFor ≤ s → {c n : Copy} → Next s ls b c n → Spent u c → byLabels n ≡ false
   spent-dead u l (free e) h = refl
-  spent-dead u l (waits k) h = refl
-  spent-dead u l (prepares g k i) h = refl
-  spent-dead u l (still v g e k) h = refl
+  spent-dead u l (waits f k) h = refl
+  spent-dead u l (by-clock f k n) h = refl
+  spent-dead u l (prepares f g k i) h = refl
+  spent-dead u l (still v f g e k) h = refl
   spent-dead u l (at-last q v e k m) h = none-here q m
-  spent-dead u l (starts q k m f) h = none-here q m
+  spent-dead u l (starts q k m z) h = none-here q m
   spent-dead u l (stays q mi e m) h = none-here q m
   spent-dead u l (leaves p mi e o) h = absurd (rw e at h)
   spent-dead u l (runs p v e o r) h = let k : v ≤ u = rw e at h in absurd (omega arith)
@@ -103,7 +106,7 @@ spent-quiet : (u : ℕ) (d : Desk) → AllSpent u d → u + runFor ≤ suc (d .c
 unfolding nextSecond moment
 spent-quiet u d h l =
     let none = none-stands-next d (h .0) in
-    is-quiet (nextSecond d) (record { none-stands = none; none-lives = λ slot. spent-dead _ _ _ none u l (copy-second d slot) (h .1 slot) })
+    is-quiet (nextSecond d) (record { none-stands = none; none-by-labels = λ slot. spent-dead _ _ _ none u l (copy-second d slot) (h .1 slot) })
 
 walk-36 : (d : Desk) → walk 36 d ≡ nextSecond (walk 29 (nextSecond (walk 5 d)))
 unfolding walk

@@ -39,9 +39,10 @@ module _ (s q : ℕ) (ls : List Stamped) (b : Booking) (c : Copy) (mi : Bool) wh
   next-starts : {n : Copy} → Next s ls b c n → n ≡ Recording q mi → Started
   unfolding recordingAt
   next-starts (next.free e) k = (cc, inl (cc))
-  next-starts (next.waits h) k = (cc, inl (cc))
-  next-starts (next.prepares g h i) k = (cc, inl (cc))
-  next-starts (next.still v g e l) k = (cc, inl (cc))
+  next-starts (next.waits f h) k = (cc, inl (cc))
+  next-starts (next.by-clock f h n) k = (cc, inl (cc))
+  next-starts (next.prepares f g h i) k = (cc, inl (cc))
+  next-starts (next.still v f g e l) k = (cc, inl (cc))
   next-starts (next.at-last r v e l m) k = let z : r ≡ q = cc in (rw (← z) m, inr (inr (rw e (lt-ltb prepareFor (s - v) l))))
   next-starts (next.starts r h m f) k = let z : r ≡ q = cc in rw (← z) (m, inl f)
   next-starts (next.stays r i e m) k = let z : r ≡ q = cc in (rw (← z) m, inr (inl (rw e (eq-eqb r q z))))
@@ -114,10 +115,10 @@ module _ (slot place : ℕ) (b : Booking) where
       MatchesAt (e .clock) d → MatchesAt (e .clock) e → RecordsOn e
   unfolding moment nextSecond
   step-records d h r n same m l = ap (λ x. timerAt x slot) (sym (h .settled)) ∙ moment-records d r m
-  step-records d h r n (hears tuner t x k z) m l = moment-records (withLabel tuner x (passTo t d)) (pass-records t d r (records-open d h r) m) l
+  step-records d h r n (hears tuner t x y k z) m l = moment-records (withLabel tuner x (passTo t d)) (pass-records t d r (records-open d h r) m) l
   step-records d h r n (waits t k z) m l = moment-records (passTo t d) (pass-records t d r (records-open d h r) m) l
   step-records d h r n (passes k) m l = moment-records (clockedAt (suc (d .clock)) d) r l
-  step-records d h r n (adds x w i e alone room) m l = moment-records (withTimer i _ d) (other-records i _ d (room-other i d h r room) r) l
+  step-records d h r n (adds x w i e range alone room) m l = moment-records (withTimer i _ d) (other-records i _ d (room-other i d h r room) r) l
   step-records d h r n (cancels i e) m l = moment-records (withTimer i noTimer d) (other-records i noTimer d (λ k. n (e ∙ ap cancel (sym k))) r) l
 
 pub stays : (d : Desk) → Sound d → (c : Call) (slot place : ℕ) (mi : Bool) → (c ≡ cancel slot → ⊥) →

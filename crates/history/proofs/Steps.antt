@@ -4,15 +4,18 @@ use mathlib.Core.Path.{_≡_, refl, sym, _∙_}
 use mathlib.Core.Bool.{Bool, true, false, cond, not, _&&_, true≢false}
 use mathlib.Core.List.{List, [], _∷_}
 use mathlib.Core.Logic.{inl, inr}
+use native.Mathlib.Omega.{arith}
 use borrow.Author.Tests.{leb-false, ltb-false, not-true}
 use lib.Dec.{leb}
 use Rattle.answer.specs.Answer.{Answer, refused, given, Row, firstOf, andThen}
+use Rattle.hamming.proofs.Bits.{bit-small}
 use Rattle.label.specs.declared.Label.{Label}
-use Rattle.label.specs.Packet.{readingOf}
+use Rattle.label.specs.Packet.{valueAt, readerRows, labelIn, readingOf}
 use Rattle.calendar.specs.declared.Window.{Window}
 use Rattle.calendar.specs.Calendar.{windowIn, clockEnd}
 use Rattle.answer.specs.Lists.{some}
 use Rattle.places.specs.Places.{Found, nowhere, at}
+use Rattle.clocked.specs.Clocked.{outOfRange}
 use Rattle.matching.specs.declared.Booking.{Booking}
 use Rattle.rule.specs.declared.Copy.the-variants.{Waiting}
 use Rattle.rule.specs.declared.Timer.{Timer}
@@ -25,14 +28,20 @@ use Rattle.history.specs.Run.{Call, packet, wait, second, add, cancel, a
 use Rattle.desk.proofs.Settle.{lowest-passes}
 use Rattle.history.proofs.Lists.{getD-set}
 
+-- a call is a packet to a tuner at second t, which reads as a label of one of its four LCI
+pub record Reads (c : Call) (tuner t : ℕ) (l : Label) : Type 0 where
+  pub bytes : List ℕ
+  pub call : c ≡ packet tuner t bytes
+  pub lci : l .lci < 4
+
 pub data Step (d : Desk) (c : Call) : Desk → Type 0 where
   -- it is refused, or only asks
   same : Step d c d
-  hears : (tuner t : ℕ) (l : Label) → d .clock ≤ t → t ≤ clockEnd → Step d c (moment (withLabel tuner l (passTo t d)))
+  hears : (tuner t : ℕ) (l : Label) → Reads c tuner t l → d .clock ≤ t → t ≤ clockEnd → Step d c (moment (withLabel tuner l (passTo t d)))
   waits : (t : ℕ) → d .clock ≤ t → t ≤ clockEnd → Step d c (moment (passTo t d))
   passes : d .clock < clockEnd → Step d c (nextSecond d)
   -- no timer that is held and not ended has the booking, and the slot is not of such a timer
-  adds : (b : Booking) (w : Window) (slot : ℕ) → windowIn (b .pil) (b .year) ≡ given w →
+  adds : (b : Booking) (w : Window) (slot : ℕ) → windowIn (b .pil) (b .year) ≡ given w → outOfRange b ≡ false →
       some (λ t. active (d .clock) t && sameBooking b (t .booking)) (d .timers) ≡ false → roomIn d ≡ at slot →
       Step d c (moment (withTimer slot (record { booking = b; copy = Waiting }) d))
   cancels : (slot : ℕ) → c ≡ cancel slot → Step d c (moment (withTimer slot noTimer d))
@@ -65,6 +74,11 @@ gives-self : {A : Type 0} (x : Answer A) → Gives (λ y. x ≡ given y) x
 gives-self (refused n) = tt
 gives-self (given y) = refl
 
+-- a label that is read has an LCI of two bits
+gives-lci : (p : List ℕ) → Gives (λ l. l .lci < 4) (readingOf p)
+unfolding readingOf
+gives-lci p = gives-first (λ l. l .lci < 4) (readerRows p) (labelIn p) λ k. omega (arith, bit-small 1 (valueAt p 9), bit-small 2 (valueAt p 9))
+
 -- neither before the clock nor past its end
 in-time : (d : Desk) (t : ℕ) → Passed (timeRows d t) → (d .clock ≤ t) × (t ≤ clockEnd)
 in-time d t k = (ltb-false t (d .clock) (k .0), ltb-false clockEnd t (k .1 .0))
@@ -86,14 +100,14 @@ module _ (d : Desk) (c : Call) where
   step-told (refused n) h = same
   step-told (given o) h = h
 
-  step-packet : (tuner t : ℕ) (bytes : List ℕ) → Gives (Step d c) (packetOf tuner t bytes d)
+  step-packet : (tuner t : ℕ) (bytes : List ℕ) → c ≡ packet tuner t bytes → Gives (Step d c) (packetOf tuner t bytes d)
   unfolding packetOf hearingAt
-  step-packet tuner t bytes =
+  step-packet tuner t bytes e =
       let rows = tunerRows d tuner t in
       gives-then (Step d c) (λ p. Passed rows) (firstOf rows bytes) _ (gives-first (λ p. Passed rows) rows bytes (λ k. k))
-      λ p k. gives-then (Step d c) (λ l. readingOf p ≡ given l) (readingOf p) _ (gives-self (readingOf p))
+      λ p k. gives-then (Step d c) (λ l. l .lci < 4) (readingOf p) _ (gives-lci p)
       λ l r. gives-first (Step d c) (labelRows l) (moment (withLabel tuner l (passTo t d)))
-      λ u. let i = in-time d t (k .1) in hears tuner t l (i .0) (i .1)
+      λ u. let i = in-time d t (k .1) in hears tuner t l (record { bytes = bytes; call = e; lci = r }) (i .0) (i .1)
 
   step-wait : (t : ℕ) → Gives LeftBy (waitOf t d)
   unfolding waitOf
@@ -108,7 +122,7 @@ module _ (d : Desk) (c : Call) where
   step-add b =
       let window = windowIn (b .pil) (b .year) in
       gives-then LeftBy (λ w. window ≡ given w) window _ (gives-self window)
-      λ w e. gives-first LeftBy (addRows b d w) _ λ k. adds b w (slotOf (roomIn d)) e (k .1 .0) (room-at (roomIn d) (k .1 .1 .0))
+      λ w e. gives-first LeftBy (addRows b d w) _ λ k. adds b w (slotOf (roomIn d)) e (k .0) (k .1 .1 .0) (room-at (roomIn d) (k .1 .1 .1 .0))
 
   step-cancel : (slot : ℕ) → c ≡ cancel slot → Gives (Step d c) (cancelOf slot d)
   unfolding cancelOf
@@ -120,7 +134,7 @@ module _ (d : Desk) (c : Call) where
 
 pub step : (d : Desk) (c : Call) → Step d c (left d (outcome c d))
 unfolding outcome
-step d (packet tuner t bytes) = step-desk d _ (packetOf tuner t bytes d) (step-packet d _ tuner t bytes)
+step d (packet tuner t bytes) = step-desk d _ (packetOf tuner t bytes d) (step-packet d _ tuner t bytes refl)
 step d (wait t) = step-told d _ (waitOf t d) (step-wait d _ t)
 step d second = step-desk d _ (secondOf d) (step-second d _)
 step d (add b) = step-told d _ (addOf b d) (step-add d _ b)
@@ -139,3 +153,17 @@ module _ (slot i : ℕ) where
   room-apart d e a k =
       let free = not-true _ (lowest-passes (λ t. not (active (d .clock) t)) noTimer (d .timers) i e) in
       true≢false (sym a ∙ rw k free)
+
+-- the slot that adding tells is the one that it uses
+abbrev Room : Desk → Told → Type 0
+Room d o = roomIn d ≡ at (o .says)
+
+gives-room : (b : Booking) (d : Desk) → Gives (Room d) (addOf b d)
+unfolding addOf
+gives-room b d =
+    let window = windowIn (b .pil) (b .year) in
+    gives-then (Room d) (λ w. window ≡ given w) window _ (gives-self window)
+    λ w e. gives-first (Room d) (addRows b d w) _ λ k. room-at (roomIn d) (k .1 .1 .1 .0)
+
+pub added-room : (b : Booking) (d : Desk) (o : Told) → addOf b d ≡ given o → roomIn d ≡ at (o .says)
+added-room b d o e = rw e at (gives-room b d)

@@ -1,29 +1,32 @@
--- Demand 3 (document 01, 'The second-by-second rule' and 'How tight the statements are'; 02, #101). Proved in proofs/Proved.antt.
+-- Demand 3 (document 01, 'The second-by-second rule' and 'How tight the statements are'; 02, #101 and #105). Proved in proofs/Proved.antt.
 use Prim.Native.Nat.{ℕ, _+_, _-_, _≤_, _<_}
 use mathlib.Core.Path.{_≡_}
 use mathlib.Core.Bool.{Bool, true, false, _&&_}
 use mathlib.Core.List.{List, [], _∷_, _++_, map}
 use mathlib.Core.Logic.{_⊎_}
 use lib.Dec.{ltb, eqb}
-use lib.ListN.{length, getD}
+use lib.ListN.{length, getD, take}
 use Rattle.answer.specs.Answer.{Answer, refused, given}
 use Rattle.answer.specs.Lists.{count}
 use Rattle.calendar.specs.Calendar.{clockEnd, windowIn}
 use Rattle.calendar.specs.declared.Window.{Window}
-use Rattle.places.specs.Places.{noLabel}
-use Rattle.matching.specs.Matching.{openAt, matches}
+use Rattle.places.specs.Places.{noLabel, labelsFail}
+use Rattle.matching.specs.Matching.{openAt, matches, sightOf}
+use Rattle.clocked.specs.Clocked.{outOfRange, inLength, clocked}
 use Rattle.rule.specs.Rule.{recordingAt, nextCopy, held, isLive, liveTimer}
 use Rattle.places.specs.declared.Stamped.{Stamped}
 use Rattle.matching.specs.declared.Booking.{Booking}
 use Rattle.rule.specs.declared.Copy.{Copy}
-use Rattle.rule.specs.declared.Copy.the-variants.{Free, Waiting, Prepared, Recording, RunningOn}
+use Rattle.rule.specs.declared.Copy.the-variants.{Free, Waiting, Prepared, Recording, RunningOn, ByTheClock}
 use Rattle.rule.specs.declared.Timer.{Timer}
+use Rattle.matching.specs.declared.Sight.the-variants.{Start}
 use Rattle.desk.specs.declared.Desk.{Desk}
 use Rattle.sixteen.specs.Sixteen.{active, sameBooking}
 use Rattle.desk.specs.Moments.{fresh, moment, walk, quiet, walkedIn, walkedTo}
-use Rattle.desk.specs.Calls.{packetOf, askOf, timerAt}
-use Rattle.history.specs.Run.{Call, wait, cancel, deskAfter, answersOf, reached, accepted, givenOnes}
-use Rattle.history.specs.Prepared.{momentsIn, OnlyPrf1, PreparedThenRecords, preparedSince}
+use Rattle.desk.specs.Calls.{Told, packetOf, addOf, askOf, timerAt}
+use Rattle.history.specs.Run.{Call, packet, wait, add, cancel, deskAfter, answersOf, reached, accepted, givenOnes}
+use Rattle.history.specs.Prepared.{momentsIn, NoPrf0, OnlyPrf1, PreparedThenRecords, preparedSince}
+use Rattle.history.specs.Clock.{ClockRecords, Silent, LiveByTime}
 
 abbrev pub Each : {A : Type 0} → (A → Type 0) → List A → Type 0
 Each P [] = Unit {0}
@@ -42,7 +45,8 @@ abbrev pub toldInAll : List (Answer (List ℕ)) → ℕ
 toldInAll [] = 0
 toldInAll (a ∷ rest) = told a + toldInAll rest
 
--- k is 'the least number after which no label stands and nothing is live, or the whole wait if that is less', of a wait of n seconds
+-- k is 'the least number after which no label stands and' nothing is recording or running on (02, #105), 'or the whole wait if that is less',
+-- of a wait of n seconds
 pub record Walked (n : ℕ) (d : Desk) (k : ℕ) : Type 0 where
   pub within : k ≤ n
   pub before : (j : ℕ) → j < k → quiet (walk j d) ≡ false
@@ -59,6 +63,7 @@ SinceBy s Waiting = Unit {0}
 SinceBy s (Prepared v) = v ≤ s
 SinceBy s (Recording p mi) = Unit {0}
 SinceBy s (RunningOn p v) = v ≤ s
+SinceBy s ByTheClock = Unit {0}
 
 -- a copy that is prepared at second s became so at most 60 seconds before
 abbrev pub PreparedWithin : ℕ → Copy → Type 0
@@ -67,6 +72,7 @@ PreparedWithin s Waiting = Unit {0}
 PreparedWithin s (Prepared v) = s ≤ v + 60
 PreparedWithin s (Recording p mi) = Unit {0}
 PreparedWithin s (RunningOn p v) = Unit {0}
+PreparedWithin s ByTheClock = Unit {0}
 
 -- what every reachable desk keeps
 pub record Sound (d : Desk) : Type 0 where
@@ -78,11 +84,15 @@ pub record Sound (d : Desk) : Type 0 where
   pub prepared : (slot : ℕ) → PreparedWithin (d .clock) (timerAt d slot .copy)
   -- a live copy's window is open
   pub open-window : (slot : ℕ) → isLive (timerAt d slot .copy) ≡ true → openAt (d .clock) (timerAt d slot .booking) ≡ true
+  -- and a clock copy's second lies within the announced second and the end of its length
+  pub in-length : (slot : ℕ) → timerAt d slot .copy ≡ ByTheClock → inLength (d .clock) (timerAt d slot .booking) ≡ true
   -- no two timers that are held and not ended are the same
   pub no-twins : (i j : ℕ) → i < j → active (d .clock) (timerAt d i) ≡ true → active (d .clock) (timerAt d j) ≡ true →
       sameBooking (timerAt d i .booking) (timerAt d j .booking) ≡ false
   -- every timer's PIL is real in its year
   pub real : (slot : ℕ) → held (timerAt d slot .copy) ≡ true → (w : Window) × (windowIn (timerAt d slot .booking .pil) (timerAt d slot .booking .year) ≡ given w)
+  -- and it has 'a home tuner and a length of 1 to 1,440 minutes'
+  pub in-range : (slot : ℕ) → held (timerAt d slot .copy) ≡ true → outOfRange (timerAt d slot .booking) ≡ false
   -- one more moment changes nothing
   pub settled : moment d ≡ d
 
@@ -93,6 +103,7 @@ recordsAt q Waiting = false
 recordsAt q (Prepared v) = false
 recordsAt q (Recording p mi) = eqb p q
 recordsAt q (RunningOn p v) = false
+recordsAt q ByTheClock = false
 
 -- at second s a copy has been prepared for more than 60 seconds
 abbrev pub longPrepared : ℕ → Copy → Bool
@@ -101,6 +112,7 @@ longPrepared s Waiting = false
 longPrepared s (Prepared v) = ltb 60 (s - v)
 longPrepared s (Recording p mi) = false
 longPrepared s (RunningOn p v) = false
+longPrepared s ByTheClock = false
 
 pub record Laws : Type 0 where
   -- the desk after the calls, what it says of every slot and every answer are those of the rule on the accepted calls alone
@@ -116,7 +128,7 @@ pub record Laws : Type 0 where
   -- nor does a wait put before a packet, up to its second
   pub wait-before : (cs : List Call) (u tuner t : ℕ) (bytes : List ℕ) → u ≤ t →
       packetOf tuner t bytes (deskAfter (wait u ∷ []) (reached cs)) ≡ packetOf tuner t bytes (reached cs)
-  -- no programme ever has two live copies: after every call, and at every second that passes, past the clock's end too
+  -- no programme ever has two live copies, clock copies counted: after every call, and at every second that passes, past the clock's end too
   pub one-copy : (cs : List Call) (n cni pil : ℕ) → count (copyOf cni pil) (walk n (reached cs) .timers) ≤ 1
   pub no-two : (cs : List Call) (n i j : ℕ) → i < j →
       let t = timerAt (walk n (reached cs)) i in let u = timerAt (walk n (reached cs)) j in
@@ -127,6 +139,9 @@ pub record Laws : Type 0 where
   pub walked-short : (cs : List Call) (t : ℕ) → walkedTo t (reached cs) ≤ 36
   -- every reachable desk, after every call and at every second that passes
   pub sound : (cs : List Call) (n : ℕ) → Sound (walk n (reached cs))
+  -- and each moment of further calls is such a desk: some of these, and seconds after them, reach it
+  pub each-moment : (cs later : List Call) →
+      Each (λ e. (i : ℕ) × (n : ℕ) × (e ≡ walk n (reached (cs ++ take i later)))) (momentsIn later (reached cs))
   -- no call passes the clock's end
   pub clock-within : (cs : List Call) → (reached cs) .clock ≤ clockEnd
   -- a recording stays with its place while its own label stands there, whatever is heard elsewhere
@@ -143,11 +158,33 @@ pub record Laws : Type 0 where
   pub after-60 : (cs : List Call) (n slot v : ℕ) (later : List Call) → let d = walk n (reached cs) in
       timerAt d slot .copy ≡ Prepared v → Each (λ c. c ≡ cancel slot → ⊥) later →
       PreparedThenRecords slot (timerAt d slot .booking) v (momentsIn later d)
-  -- and nothing but a match of PRF 1, with none of PRF 0, makes or keeps a copy prepared
-  pub prepares : (s v : ℕ) (ls : List Stamped) (b : Booking) (c : Copy) → nextCopy s ls b c ≡ Prepared v → OnlyPrf1 s ls b
+  -- and nothing but a match of PRF 1, with none of PRF 0, makes or keeps a copy prepared, and nothing does where the clock records it
+  pub prepares : (s v : ℕ) (ls : List Stamped) (b : Booking) (c : Copy) → nextCopy s ls b c ≡ Prepared v →
+      OnlyPrf1 s ls b × (clocked s ls b ≡ false)
   -- 'the copy keeps the second at which it became prepared', whichever place matches and however often the label is sent
   pub since : (s v : ℕ) (ls : List Stamped) (b : Booking) (c : Copy) → nextCopy s ls b c ≡ Prepared v → v ≡ preparedSince s c
   -- 'without a break': after a moment at which a copy is not prepared no moment, of that second or a later one, finds it prepared since an
   -- earlier second
   pub break : (d : Desk) (slot : ℕ) (later : List Call) → ((u : ℕ) → timerAt d slot .copy ≡ Prepared u → ⊥) →
       Each (λ e. (v : ℕ) → timerAt e slot .copy ≡ Prepared v → d .clock ≤ v) (momentsIn later d)
+  -- at every second of every reachable desk a timer is 'by the clock' exactly if it neither records nor runs on, no label with PRF 0 matches, its
+  -- home tuner is without labels or has timer-control, and the second lies in its length and window
+  pub by-the-clock : (cs : List Call) (n slot : ℕ) → let d = walk n (reached cs) in
+      (timerAt d slot .copy ≡ ByTheClock → ClockRecords d slot) × (ClockRecords d slot → timerAt d slot .copy ≡ ByTheClock)
+  -- a timer whose home tuner is silent, with no match anywhere, is live, from its adding on and while it is held, exactly at the seconds of its
+  -- length inside its window, through waits of any length
+  pub silent-home : (cs : List Call) (b : Booking) (o : Told) (later : List Call) → addOf b (reached cs) ≡ given o →
+      LiveByTime (o .says) b (momentsIn (add b ∷ later) (reached cs))
+  -- and a tuner that never hears a packet is silent
+  pub never-hears : (cs : List Call) (n tuner : ℕ) → Each (λ c. (t : ℕ) (bytes : List ℕ) → c ≡ packet tuner t bytes → ⊥) cs →
+      Silent tuner (walk n (reached cs))
+  -- whatever a timer that is held was doing before: where its home tuner is without labels or has timer-control, and the second lies in its length
+  -- and window, it is live
+  pub no-gap : (cs : List Call) (n slot : ℕ) → let d = walk n (reached cs) in let t = timerAt d slot in let b = t .booking in
+      held (t .copy) ≡ true → labelsFail (d .clock) (d .places) (b .tuner) ≡ true → inLength (d .clock) b ≡ true →
+      openAt (d .clock) b ≡ true → liveTimer t ≡ true
+  -- 'under Moments the timer is treated as not live, so a match with PRF 0 makes it recording', at the lowest such place
+  pub taken-over : (s q : ℕ) (ls : List Stamped) (b : Booking) → sightOf s ls b ≡ Start q → nextCopy s ls b ByTheClock ≡ recordingAt ls q
+  -- else the clock 'comes before prepared, and before the start after its 60 seconds, and ends it': by `break` its second is lost
+  pub clock-ends-prepared : (s v : ℕ) (ls : List Stamped) (b : Booking) → NoPrf0 s ls b → clocked s ls b ≡ true →
+      nextCopy s ls b (Prepared v) ≡ ByTheClock

@@ -1,3 +1,4 @@
 pub mod Run
 pub mod Prepared
+pub mod Clock
 pub mod Laws

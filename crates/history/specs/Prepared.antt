@@ -6,11 +6,12 @@ use mathlib.Core.List.{List, [], _∷_, _++_}
 use lib.ListN.{getD}
 use Rattle.places.specs.Places.{noLabel}
 use Rattle.matching.specs.Matching.{matches}
+use Rattle.clocked.specs.Clocked.{clocked}
 use Rattle.rule.specs.Rule.{recordingAt}
 use Rattle.places.specs.declared.Stamped.{Stamped}
 use Rattle.matching.specs.declared.Booking.{Booking}
 use Rattle.rule.specs.declared.Copy.{Copy}
-use Rattle.rule.specs.declared.Copy.the-variants.{Free, Waiting, Prepared, Recording, RunningOn}
+use Rattle.rule.specs.declared.Copy.the-variants.{Free, Waiting, Prepared, Recording, RunningOn, ByTheClock}
 use Rattle.desk.specs.declared.Desk.{Desk}
 use Rattle.desk.specs.Moments.{nextSecond}
 use Rattle.desk.specs.Calls.{timerAt}
@@ -29,11 +30,15 @@ momentsIn [] d = []
 momentsIn (c ∷ cs) d = let e = left d (outcome c d) in secondsOf (e .clock - d .clock) d ++ e ∷ momentsIn cs e
 
 -- ── what keeps a copy prepared, and what starts it ─────────────────────────────────────────────────────────────────
+-- no match with PRF 0: each label that matches has PRF 1
+abbrev pub NoPrf0 : ℕ → List Stamped → Booking → Type 0
+NoPrf0 s ls b = (q : ℕ) → matches s b (getD ls q noLabel) ≡ true → getD ls q noLabel .prf ≡ true
+
 -- 'a match of PRF 1 only': the label of some place matches, and each that matches has PRF 1
 pub record OnlyPrf1 (s : ℕ) (ls : List Stamped) (b : Booking) : Type 0 where
   pub place : ℕ
   pub matching : matches s b (getD ls place noLabel) ≡ true
-  pub only : (q : ℕ) → matches s b (getD ls q noLabel) ≡ true → getD ls q noLabel .prf ≡ true
+  pub only : NoPrf0 s ls b
 
 -- 'the lowest place that matches'
 pub record LowestMatch (s : ℕ) (ls : List Stamped) (b : Booking) (q : ℕ) : Type 0 where
@@ -46,11 +51,12 @@ RecordsFrom slot b q [] = Unit {0}
 RecordsFrom slot b q (e ∷ es) = matches (e .clock) b (getD (e .places) q noLabel) ≡ true →
     (timerAt e slot ≡ record { booking = b; copy = recordingAt (e .places) q }) × RecordsFrom slot b q es
 
--- as long as at each of these moments some place matches and none with PRF 0: a slot's timer is prepared since v at those up to v+60; the
--- first after that is at v+61, and from it on the timer records at the lowest place that matches then
+-- as long as at each of these moments some place matches and none with PRF 0, and the clock does not record the timer, which 'comes before
+-- prepared, and before the start after its 60 seconds' (02, #105): a slot's timer is prepared since v at those up to v+60; the first after
+-- that is at v+61, and from it on the timer records at the lowest place that matches then
 abbrev pub PreparedThenRecords : ℕ → Booking → ℕ → List Desk → Type 0
 PreparedThenRecords slot b v [] = Unit {0}
-PreparedThenRecords slot b v (e ∷ es) = OnlyPrf1 (e .clock) (e .places) b →
+PreparedThenRecords slot b v (e ∷ es) = OnlyPrf1 (e .clock) (e .places) b → clocked (e .clock) (e .places) b ≡ false →
     (e .clock ≤ v + 60 → (timerAt e slot ≡ record { booking = b; copy = Prepared v }) × PreparedThenRecords slot b v es)
     × (v + 60 < e .clock → (e .clock ≡ v + 61) × ((q : ℕ) × LowestMatch (e .clock) (e .places) b q × RecordsFrom slot b q (e ∷ es)))
 
@@ -61,3 +67,4 @@ preparedSince s Waiting = s
 preparedSince s (Prepared v) = v
 preparedSince s (Recording p mi) = s
 preparedSince s (RunningOn p v) = s
+preparedSince s ByTheClock = s

@@ -59,7 +59,7 @@ two-bytes (a ∷ b ∷ c ∷ i) e h = absurd (omega arith)
 -- ── what a sheet can still take ────────────────────────────────────────────────────────────────────────────────────
 abbrev room : Stage → ℕ
 room TimerCount = longestSheet
-room (Timers n) = n * 6 + (2 + 65535 * 47)
+room (Timers n) = n * 9 + (2 + 65535 * 47)
 room PacketCount = 2 + 65535 * 47
 room (Packets n) = n * 47
 room Complete = 0
@@ -74,7 +74,7 @@ item-room : (st : Stage) → Real st → (i : List ℕ) → length i ≡ need st
 item-room TimerCount r i e h =
     inr (left-is (λ n st. n ≤ 255 → room st + 1 ≤ longestSheet) PacketCount Timers (λ l. omega arith) (λ n l. omega arith) (numberOf i) (one-byte i e h))
 item-room (Timers n) r i e h =
-    let l = left-is (λ m st. room st ≤ m * 6 + (2 + 65535 * 47)) PacketCount Timers (omega arith) (λ m. omega arith) (n - 1) in
+    let l = left-is (λ m st. room st ≤ m * 9 + (2 + 65535 * 47)) PacketCount Timers (omega arith) (λ m. omega arith) (n - 1) in
     inr (omega arith)
 item-room PacketCount r i e h =
     inr (left-is (λ n st. n ≤ 65535 → room st + 2 ≤ 2 + 65535 * 47) Complete Packets (λ l. omega arith) (λ n l. omega arith) (numberOf i) (two-bytes i e h))
@@ -173,7 +173,7 @@ timers-few : (n : ℕ) (xs : List ℕ) → Bytes xs → packetsIn (timersFrom n 
 unfolding timersFrom
 timers-few zero xs h = section-few xs h
 timers-few (suc n) xs h =
-    next-is (λ x. packetsIn (onTimer (timersFrom n) x) ≤ 65535) 6 xs (omega arith) (λ l. omega (arith, timers-few n (drop 6 xs) (bytes-drop 6 xs h)))
+    next-is (λ x. packetsIn (onTimer (timersFrom n) x) ≤ 65535) 9 xs (omega arith) (λ l. omega (arith, timers-few n (drop 9 xs) (bytes-drop 9 xs h)))
 
 pub few-packets : (p : List ℕ) → ((i : ℕ) → getD p i 0 < 256) → packetsIn (itemsOf p) ≤ 65535
 unfolding itemsOf

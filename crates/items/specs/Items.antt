@@ -59,9 +59,9 @@ onTimer rest (item i xs) = onto (timer i ∷ []) (rest xs)
 -- n timers, and the packets section
 unfoldable pub timersFrom : ℕ → List ℕ → Contents
 timersFrom zero xs = onPacketCount (next 2 xs)
-timersFrom (suc n) xs = onTimer (timersFrom n) (next 6 xs)
+timersFrom (suc n) xs = onTimer (timersFrom n) (next 9 xs)
 
--- 'timers: a one-byte count, then 6 bytes each'
+-- 'timers: a one-byte count, then 6 bytes each', and the entry 'grows by tuner (1 byte) and length (2 bytes)' (02, #105)
 abbrev pub onTimerCount : Next → Contents
 onTimerCount short = noMore false
 onTimerCount (item i xs) = timersFrom (numberOf i) xs

@@ -16,7 +16,7 @@ use Rattle.items.specs.Items.{Item, timer, packet}
 -- how many bytes come next: a count, a timer, a packet, or one that is left over
 abbrev pub need : Stage → ℕ
 need TimerCount = 1
-need (Timers n) = 6
+need (Timers n) = 9
 need PacketCount = 2
 need (Packets n) = 47
 need Complete = 1
@@ -49,7 +49,7 @@ foundAt LeftOver = Nothing
 -- the items of that kind among the bytes held
 abbrev pub itemsFound : Found → List ℕ → List Item
 itemsFound Nothing held = []
-itemsFound Timer held = timer (take 6 held) ∷ []
+itemsFound Timer held = timer (take 9 held) ∷ []
 itemsFound Packet held = packet (take 47 held) ∷ []
 
 -- one more byte is held
@@ -118,7 +118,7 @@ unsplit = record { stage = TimerCount; have = 0; held = replicate 47 0 }
 
 -- a one-byte count and its timers, a two-byte count and its packets
 abbrev pub longestSheet : ℕ
-longestSheet = 1 + 255 * 6 + 2 + 65535 * 47
+longestSheet = 1 + 255 * 9 + 2 + 65535 * 47
 
 -- how many bytes may still decide something after a read: none where it gave none, or once a byte is left over
 abbrev pub decidingAfter : ℕ → ℕ → Bool → ℕ

@@ -4,7 +4,7 @@ ghost use mathlib.Core.Path.{_≡_};
 ghost use Rattle.items.specs.Pieces.{longestSheet, decidingAfter};
 
 // The bytes of the longest sheet: a count, 255 timers, a count and 65,535 packets.
-const LONGEST: usize = 1 + 255 * 6 + 2 + 65535 * 47;
+const LONGEST: usize = 1 + 255 * 9 + 2 + 65535 * 47;
 
 // So many bytes decide what a sheet holds: after them one is left over (law `longest-sheet`), and then the rest decides nothing (law
 // `settled`).

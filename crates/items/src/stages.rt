@@ -13,7 +13,7 @@ pub(crate) fn last_place(stage: Stage) -> usize
 {
     match stage {
         Stage::TimerCount => 0,
-        Stage::Timers(_) => 5,
+        Stage::Timers(_) => 8,
         Stage::PacketCount => 1,
         Stage::Packets(_) => 46,
         Stage::Complete => 0,

@@ -3,14 +3,15 @@ use Prim.Native.Nat.{ℕ}
 use mathlib.Core.Path.{_≡_, refl, ap, ap₂}
 use mathlib.Core.List.{List, [], _∷_, map}
 use native.Mathlib.Omega.{arith}
-use Rattle.rule.specs.Rule.{isLive, liveTimer}
+use Rattle.rule.specs.Rule.{isLive}
 use Rattle.desk.specs.Moments.{walk, passTo}
 use Rattle.marked.specs.Marked.{Example, standsAfter, liveAfter, saysAfter, examples, Marked}
 use Rattle.marked.proofs.Rules.{rules}
 use Rattle.marked.proofs.Standing.{standing, lapsed, renews, renews-not, kept, kept-until}
-use Rattle.marked.proofs.Terminated.{stops, runs, ends}
+use Rattle.marked.proofs.Terminated.{stops, runs}
 use Rattle.marked.proofs.Prepared.{prepares, prepared-to-60}
 use Rattle.marked.proofs.Twelve.{twelve, twelve-sheet}
+use Rattle.marked.proofs.Close.{at-close}
 
 -- what each example gives is what the paper says
 abbrev Right : List Example → Type 0
@@ -23,13 +24,13 @@ listed (e ∷ es) r = ap₂ (λ (ns : List ℕ) (rest : List (List ℕ)). ns ∷
 
 right : Right examples
 unfolding examples standsAfter liveAfter saysAfter rules walk passTo
-right = (refl, (refl, (refl, (refl, (refl, (refl, (refl, (refl, (refl, (refl, (refl, (twelve, (twelve-sheet, tt)))))))))))))
+right = (refl, (refl, (refl, (refl, (refl, (refl, (refl, (refl, (refl, (refl, (refl, (twelve, (twelve-sheet, (refl, (at-close, (refl, tt))))))))))))))))
 
 pub marked : Marked
 marked = record {
   listed = listed examples right;
   eight = λ t l h. (standing t _ l h (omega arith), lapsed t _ l h (omega arith));
-  nine = λ t slot p b d h none opened. (λ n k. ap liveTimer (runs t slot p b d h none opened n (omega arith)), ends t slot p b d h none opened);
+  nine = λ t slot p b d later h none opened. runs t slot p b d h none opened later;
   nine-mi-1 = λ t slot p b d h none. stops t slot p b _ d h refl none;
   ten =
       λ t l c h code. (
@@ -38,6 +39,6 @@ marked = record {
         kept-until t _ l c h code _ (omega arith) (omega arith),
         renews-not t _ l c h code (omega arith),
       );
-  eleven = λ s v ls b c n h. let e = prepares s ls b h n in (e, ap isLive e);
+  eleven = λ s v ls b c n h l. let e = prepares s ls b h l n in (e, ap isLive e);
   eleven-to-60 = prepared-to-60;
 }

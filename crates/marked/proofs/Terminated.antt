@@ -1,10 +1,11 @@
--- Example 9 for every desk, slot, place and second: RI/T over a recording.
-use Prim.Native.Nat.{ℕ, zero, suc, _+_, _-_, _≤_, _<_}
+-- Example 9 for every desk, slot, place and second, through later calls: RI/T over a recording.
+use Prim.Native.Nat.{ℕ, zero, suc, _+_, _-_, _≤_}
 use mathlib.Core.Path.{_≡_, refl, sym, _∙_}
 use mathlib.Core.Bool.{Bool, true, false, cond, _&&_, true≢false}
 use mathlib.Core.List.{List, [], _∷_}
 use mathlib.Core.Logic.{_⊎_, inl, inr}
 use native.Mathlib.Omega.{arith}
+use native.Mathlib.Decide.{decLe}
 use borrow.Author.Tests.{lt-ltb, le-ltb, ltb-false, eqb-true, eqb-false}
 use lib.Dec.{eqb}
 use lib.ListN.{getD, set}
@@ -18,21 +19,31 @@ use Rattle.answer.proofs.Every.{accepted}
 use Rattle.calendar.specs.declared.Window.{Window}
 use Rattle.calendar.specs.Calendar.{windowIn, realIn}
 use Rattle.calendar.proofs.Windows.{realIn-parts, windowIn-given}
-use Rattle.places.specs.Places.{noLabel, stands, stamped, heardAt}
-use Rattle.matching.specs.Matching.{openIn, openAt, endedAt, matches}
-use Rattle.rule.specs.Rule.{fromRecording, runFor, fromRunningOn, nextCopy, nextTimer, liveTimer}
+use Rattle.places.specs.Places.{noLabel, stands, stamped, heardAt, labelsFail}
+use Rattle.matching.specs.Matching.{openIn, openAt, endedAt, matches, sightOf}
+use Rattle.clocked.proofs.Parts.{clocked-labelled}
+use Rattle.rule.specs.Rule.{clockOr, fromRecording, runFor, fromRunningOn, nextCopy, nextTimer, byLabels, liveTimer}
 use Rattle.places.specs.declared.Stamped.{Stamped}
 use Rattle.matching.specs.declared.Booking.{Booking}
-use Rattle.rule.specs.declared.Copy.the-variants.{Recording, RunningOn}
+use Rattle.rule.specs.declared.Copy.{Copy}
+use Rattle.rule.specs.declared.Copy.the-variants.{Waiting, Recording, RunningOn}
+use Rattle.matching.specs.declared.Sight.{Sight}
+use Rattle.matching.specs.declared.Sight.the-variants.{Nothing, Prepare, Start}
 use Rattle.desk.specs.declared.Desk.{Desk}
-use Rattle.desk.specs.Moments.{moment, clockedAt, nextSecond, walk, passTo}
+use Rattle.desk.specs.Moments.{moment, passTo}
 use Rattle.desk.specs.Calls.{tunerRows, withLabel, hearingAt, labelRows, packetOf, timerAt}
-use Rattle.desk.proofs.Settle.{nextCopy-open}
-use Rattle.desk.proofs.Jump.{timerAt-moment, walk-add, walk-clock, walk-places}
+use Rattle.desk.proofs.Settle.{nextCopy-open, start-matches, prepare-matches, moment-settled}
+use Rattle.desk.proofs.Jump.{timerAt-moment}
 use Rattle.history.proofs.Waits.{passTo-clock}
 use Rattle.history.proofs.Windows.{open-not-ended}
-use Rattle.marked.specs.Marked.{Terminated, NothingElse, Throughout, liveIn}
-use Rattle.history.proofs.Sees.{NoneStarts}
+use Rattle.history.specs.Run.{Call, cancel}
+use Rattle.history.specs.Prepared.{momentsIn, NoPrf0}
+use Rattle.history.specs.Laws.{Each}
+use Rattle.history.proofs.Next.{next-is, next-held}
+use Rattle.history.proofs.Chain.{Chain, chain-calls}
+use Rattle.history.proofs.Prepared.{Has, goes-to}
+use Rattle.history.proofs.Silent.{next-unheard}
+use Rattle.marked.specs.Marked.{Terminated, NothingElse, Labelled, Undisturbed, RunsOut}
 use Rattle.marked.proofs.Prepared.{moves-not, starts-not}
 
 -- ── RI/T matches no timer ──────────────────────────────────────────────────────────────────────────────────────────
@@ -89,35 +100,66 @@ packet-given tuner t bytes l d e r g =
     let same : l ≡ y .0 = let z : readingOf (x .0) ≡ given l = rw (← gate .1) r in cc in
     (ltb-false t (d .clock) (gate .0 .1 .0), rw same (sym (accepted _ e (labelRows (y .0)) (y .2) .1)))
 
--- ── the seconds of a run-on ────────────────────────────────────────────────────────────────────────────────────────
+-- ── the moments of a run-on ────────────────────────────────────────────────────────────────────────────────────────
 module _ (t slot p : ℕ) (b : Booking) where
-  abbrev RunsOn : Desk → Type 0
-  RunsOn d = timerAt d slot ≡ record { booking = b; copy = RunningOn p t }
+  nothing-seen : (e : Desk) → Undisturbed b e → sightOf (e .clock) (e .places) b ≡ Nothing
+  nothing-seen e u = go (sightOf (e .clock) (e .places) b) refl
+    where
+      go : (g : Sight) → sightOf (e .clock) (e .places) b ≡ g → g ≡ Nothing
+      go (Start q) k = absurd (true≢false (sym (start-matches (e .clock) (e .places) b q k .0) ∙ u .none-matches q))
+      go (Prepare q) k = absurd (true≢false (sym (prepare-matches (e .clock) (e .places) b q k) ∙ u .none-matches q))
+      go Nothing k = refl
 
-  -- at second s the window has not ended, and nothing starts a copy
-  abbrev Alone : ℕ → List Stamped → Type 0
-  Alone s ls = (endedAt s b ≡ false) × NoneStarts s ls b
+  none-starts-at : (e : Desk) → Undisturbed b e → NoPrf0 (e .clock) (e .places) b
+  none-starts-at e u q m = absurd (true≢false (sym m ∙ u .none-matches q))
 
-  moment-runs : (d : Desk) → RunsOn d → Alone (d .clock) (d .places) → d .clock < t + 30 → RunsOn (moment d)
-  unfolding nextTimer fromRunningOn
-  moment-runs d r a k =
-      let more = lt-ltb (d .clock - t) runFor (omega arith) in
-      timerAt-moment d slot ∙ rw (r, nextCopy-open (d .clock) (d .places) b (a .0) (RunningOn p t), moves-not (d .clock) (d .places) b (a .1), more)
+  -- once it neither records nor runs on it is not live
+  over : (es : List Desk) (d : Desk) (c : Copy) → Has slot b c d → byLabels c ≡ false → t + 30 ≤ d .clock → Chain slot ⊥ d es → RunsOut t slot b es
+  over [] d c h n k r = tt
+  over (e ∷ es) d c h n k r = λ u.
+      let next = next-is (e .clock) (e .places) b c in
+      let at-e = goes-to slot b d e h (r .0) refl in
+      let dead = next-unheard (e .clock) (e .places) b (u .none-matches) next n in
+      let holds = next-held _ _ _ next ∙ h .held-now in
+      let lasts = open-not-ended b (e .clock) (u .open-window) in (
+        λ l. absurd (omega (arith, r .0 .onward)),
+        λ l. rw at-e (dead .1 holds ∙ clocked-labelled (e .clock) (e .places) b (u .labelled)),
+        over es e _ (record { timer = at-e; lasts = lasts; held-now = holds }) (dead .0) (omega (arith, r .0 .onward)) (r .1),
+      )
 
-  walk-runs : (n : ℕ) (d : Desk) → RunsOn d → ((s : ℕ) → d .clock ≤ s → s ≤ d .clock + n → Alone s (d .places)) → d .clock + n < t + 30 → RunsOn (walk n d)
-  unfolding walk nextSecond moment
-  walk-runs zero d r a k = r
-  walk-runs (suc n) d r a k =
-      let s = suc (d .clock) in
-      let next = moment-runs (clockedAt s d) r (a s (omega arith) (omega arith)) (omega arith) in
-      walk-runs n (nextSecond d) next (λ u i j. a u (omega arith) (omega arith)) (omega arith)
+  module _ (e : Desk) (u : Undisturbed b e) where
+    abbrev next : Copy
+    next = nextCopy (e .clock) (e .places) b (RunningOn p t)
 
-  moment-ends : (d : Desk) → RunsOn d → Alone (d .clock) (d .places) → t + 30 ≤ d .clock → liveTimer (timerAt (moment d) slot) ≡ false
-  unfolding nextTimer fromRunningOn
-  moment-ends d r a k =
-      let over = le-ltb (d .clock - t) runFor (omega arith) in
-      rw (timerAt-moment d slot, r, nextCopy-open (d .clock) (d .places) b (a .0) (RunningOn p t), moves-not (d .clock) (d .places) b (a .1), over)
-      (starts-not (d .clock) (d .places) b (a .1))
+    open-e : endedAt (e .clock) b ≡ false
+    open-e = open-not-ended b (e .clock) (u .open-window)
+
+    runs-still : e .clock ≤ t + 29 → next ≡ RunningOn p t
+    unfolding fromRunningOn
+    runs-still l =
+        nextCopy-open (e .clock) (e .places) b open-e (RunningOn p t)
+        ∙ rw (moves-not (e .clock) (e .places) b (none-starts-at e u), lt-ltb (e .clock - t) runFor (omega arith))
+
+    run-over : t + 30 ≤ e .clock → next ≡ Waiting
+    unfolding fromRunningOn clockOr
+    run-over l =
+        nextCopy-open (e .clock) (e .places) b open-e (RunningOn p t)
+        ∙ rw (
+          nothing-seen e u,
+          le-ltb (e .clock - t) runFor (omega arith),
+          clocked-labelled (e .clock) (e .places) b (u .labelled),
+        )
+
+  runs-out : (es : List Desk) (d : Desk) → Has slot b (RunningOn p t) d → d .clock ≤ t + 29 → Chain slot ⊥ d es → RunsOut t slot b es
+  runs-out [] d h k r = tt
+  runs-out (e ∷ es) d h k r = λ u. elim (decLe (e .clock) (t + 29)) [
+    | yes l ↦
+        let at-e = goes-to slot b d e h (r .0) (runs-still e u l) in
+        (λ m. rw at-e, λ m. absurd (omega arith), runs-out es e (record { timer = at-e; lasts = open-e e u; held-now = refl }) l (r .1))
+    | no l ↦
+        let at-e = goes-to slot b d e h (r .0) (run-over e u (omega arith)) in
+        (λ m. absurd (omega arith), λ m. rw at-e, over es e Waiting (record { timer = at-e; lasts = open-e e u; held-now = refl }) refl (omega arith) (r .1))
+  ]
 
 -- ── RI/T at t ──────────────────────────────────────────────────────────────────────────────────────────────────────
 module _ (t slot p : ℕ) (b : Booking) (mi : Bool) (d : Desk) (h : Terminated t slot p b mi d) where
@@ -151,38 +193,36 @@ module _ (t slot p : ℕ) (b : Booking) (mi : Bool) (d : Desk) (h : Terminated t
         | inr e ↦ rw e
       ])
 
-  none-starts : (s : ℕ) → NothingElse s p b d → NoneStarts s (d .places) b
+  none-starts : (s : ℕ) → NothingElse s p b d → NoPrf0 s (d .places) b
   none-starts s none q m = absurd (true≢false (sym m ∙ by-test (eqb q p) (λ e. rw (eqb-true q p e) (leaves s)) (λ e. none q (eqb-false q p e))))
 
   -- with MI 1
-  pub stops : mi ≡ true → NothingElse t p b d → liveIn 0 slot d ≡ false
-  unfolding walk nextCopy fromRecording
-  stops one none =
+  pub stops : mi ≡ true → NothingElse t p b d → Labelled b d → liveTimer (timerAt d slot) ≡ false
+  unfolding nextCopy fromRecording
+  stops one none labelled =
       let n = none-starts t none in
-      rw copy-now (by-test (endedAt t b) (λ e. rw e) (λ e. rw (e, leaves t, one, moves-not t (d .places) b n) (starts-not t (d .places) b n)))
+      let l : labelsFail t (d .places) (b .tuner) ≡ false = rw clock-now at labelled in
+      rw copy-now (by-test (endedAt t b) (λ e. rw e) (λ e. rw (e, leaves t, one, moves-not t (d .places) b n) (starts-not t (d .places) b n l)))
 
 -- with MI 0
-module _ (t slot p : ℕ) (b : Booking) (d : Desk) (h : Terminated t slot p b false d) (none : Throughout t (λ s. NothingElse s p b d))
-    (opened : Throughout t (λ s. openAt s b ≡ true)) where
-  alone : (s : ℕ) → t ≤ s → s ≤ t + 30 → Alone t slot p b s (d .places)
-  alone s i j = (open-not-ended b s (opened s i j), none-starts t slot p b false d h s (none s i j))
+module _ (t slot p : ℕ) (b : Booking) (d : Desk) (h : Terminated t slot p b false d) (none : NothingElse t p b d) (opened : openAt t b ≡ true) where
+  lasts-now : endedAt t b ≡ false
+  lasts-now = open-not-ended b t opened
 
-  runs-first : RunsOn t slot p b d
+  runs-first : timerAt d slot ≡ record { booking = b; copy = RunningOn p t }
   unfolding fromRecording
   runs-first =
-      let a = alone t (omega arith) (omega arith) in
       copy-now t slot p b false d h
-      ∙ rw (nextCopy-open t (d .places) b (a .0) (Recording p false), leaves t slot p b false d h t, moves-not t (d .places) b (a .1))
+      ∙ rw (
+        nextCopy-open t (d .places) b lasts-now (Recording p false),
+        leaves t slot p b false d h t,
+        moves-not t (d .places) b (none-starts t slot p b false d h t none),
+      )
 
-  pub runs : (n : ℕ) → n < 30 → RunsOn t slot p b (walk n d)
-  runs n k =
-      let now = clock-now t slot p b false d h in
-      walk-runs t slot p b n d runs-first (λ s i j. alone s (omega arith) (omega arith)) (omega arith)
-
-  pub ends : liveIn 30 slot d ≡ false
-  unfolding walk nextSecond
-  ends =
-      let e = walk 29 d in
-      let now : suc (e .clock) ≡ t + 30 = omega (arith, walk-clock 29 d, clock-now t slot p b false d h) in
-      let a : Alone t slot p b (suc (e .clock)) (e .places) = rw (now, walk-places 29 d) (alone (t + 30) (omega arith) (omega arith)) in
-      rw (walk-add 29 1 d) (moment-ends t slot p b (clockedAt (suc (e .clock)) e) (runs 29 (omega arith)) a (omega arith))
+  pub runs : (later : List Call) → Each (λ c. c ≡ cancel slot → ⊥) later → (liveTimer (timerAt d slot) ≡ true) × RunsOut t slot b (momentsIn later d)
+  runs later kept =
+      let now = clock-now t slot p b false d h in (
+        rw runs-first,
+        runs-out t slot p b (momentsIn later d) d (record { timer = runs-first; lasts = rw now lasts-now; held-now = refl }) (omega arith)
+            (chain-calls slot ⊥ later d (rw (left t slot p b false d h .1) (moment-settled _)) kept),
+      )

@@ -19,7 +19,7 @@ use Rattle.marked.specs.Marked.{packetA, takenOver, plainly, wholeCase}
 use Rattle.marked.proofs.Rules.{rules}
 
 -- an accepted call's answer, and then the others'
-after-given : (c : Call) (cs : List Call) (d : Desk) (o : Done) → outcome c d ≡ given o → answersOf (c ∷ cs) d ≡ given (o .tells) ∷ answersOf cs (o .desk)
+pub after-given : (c : Call) (cs : List Call) (d : Desk) (o : Done) → outcome c d ≡ given o → answersOf (c ∷ cs) d ≡ given (o .tells) ∷ answersOf cs (o .desk)
 unfolding answersOf
 after-given c cs d o e = rw e
 
@@ -27,7 +27,7 @@ abbrev first : ℕ
 first = 0x04C5DF38
 
 abbrev booking : Booking
-booking = record { cni = 0x1D65; pil = 0x7BCDE; year = 2 }
+booking = record { cni = 0x1D65; pil = 0x7BCDE; year = 2; tuner = 0; length = 60 }
 
 -- the desk with the timer, and with the first packet's label
 abbrev booked : Desk

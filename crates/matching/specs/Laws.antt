@@ -9,7 +9,7 @@ use Rattle.label.specs.Pil.{serviceOf}
 use Rattle.calendar.specs.Calendar.{realIn, windowIn}
 use Rattle.places.specs.declared.Stamped.{Stamped}
 use Rattle.matching.specs.declared.Booking.{Booking}
-use Rattle.matching.specs.Matching.{endedAt, matches, sightOf}
+use Rattle.matching.specs.Matching.{openAt, endedAt, matches, sightOf}
 
 pub record Laws : Type 0 where
   -- 'other service codes and no-specific-value' are labels 'that match no timer', whatever was booked
@@ -19,6 +19,7 @@ pub record Laws : Type 0 where
   -- .. nor with anything else that could not be added
   pub refused-matches-nothing : (s : ℕ) (b : Booking) (l : Stamped) (n : ℕ) → windowIn (b .pil) (b .year) ≡ refused n → matches s b l ≡ false
   -- each call's promise allows one outcome
+  pub open-at-unique : (s : ℕ) (b : Booking) → Unique (λ r. r ≡ openAt s b)
   pub ended-at-unique : (s : ℕ) (b : Booking) → Unique (λ r. r ≡ endedAt s b)
   pub matches-unique : (s : ℕ) (b : Booking) (l : Stamped) → Unique (λ r. r ≡ matches s b l)
   pub sight-of-unique : (s : ℕ) (ls : List Stamped) (b : Booking) → Unique (λ r. r ≡ sightOf s ls b)

@@ -6,11 +6,13 @@ ghost use Rattle.matching.specs.Laws.{Laws};
 pub mod seeing; // matches, and what a timer sees
 pub mod windows; // a timer's window
 
-// What a timer is. The wider fields come first, as in `Stamped`.
+// What a timer is: CNI, PIL and year, and 'a home tuner and a length of 1 to 1,440 minutes'. The wider fields come first, as in `Stamped`.
 pub struct Booking {
     pub pil: u32,
     pub cni: u16,
+    pub length: u16,
     pub year: u8,
+    pub tuner: u8,
 }
 
 // What a timer that is not live goes by: the lowest match with PRF 0, failing that the lowest match, which then has PRF 1.

@@ -5,7 +5,7 @@ use crate::Booking;
 use calendar::Validity;
 
 // A booking that is not real has no window.
-pub(crate) fn open_at(s: u32, b: Booking) -> bool
+pub fn open_at(s: u32, b: Booking) -> bool
     ensures { λ r. ⌜ r ≡ openAt s b ⌝ }
 {
     let validity = calendar::window_of(b.pil, b.year);

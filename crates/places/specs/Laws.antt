@@ -10,7 +10,7 @@ use Rattle.label.specs.declared.Label.{Label}
 use Rattle.label.specs.declared.pil.Service.the-variants.{Continuation}
 use Rattle.label.specs.Pil.{serviceOf}
 use Rattle.places.specs.declared.Stamped.{Stamped}
-use Rattle.places.specs.Places.{noLabel, stands, stamped, heardAt}
+use Rattle.places.specs.Places.{noLabel, stands, stamped, heardAt, labelsFail}
 
 pub record Laws : Type 0 where
   -- 'other service codes and no-specific-value stand as labels'
@@ -23,3 +23,4 @@ pub record Laws : Type 0 where
   pub label-at-unique : (ls : List Stamped) (p : ℕ) → Unique (λ r. r ≡ getD ls p noLabel)
   pub put-label-unique : (ls : List Stamped) (p : ℕ) (l : Stamped) → Unique (λ r. r ≡ set ls p l)
   pub any-stands-unique : (s : ℕ) (ls : List Stamped) → Unique (λ r. r ≡ some (stands s) ls)
+  pub labels-fail-unique : (s : ℕ) (ls : List Stamped) (tuner : ℕ) → Unique (λ r. r ≡ labelsFail s ls tuner)

@@ -1,9 +1,11 @@
 -- The places (document 01, amended by 02): what is heard at one, how long it stands, and the lowest of them. A second is a number of the clock; a
 -- place is a number from 0 to 15.
-use Prim.Native.Nat.{ℕ, suc, _-_}
-use mathlib.Core.Bool.{Bool, true, false, cond, not, _&&_}
-use mathlib.Core.List.{List, [], _∷_}
+use Prim.Native.Nat.{ℕ, suc, _+_, _-_, _*_}
+use mathlib.Core.Bool.{Bool, true, false, cond, not, _&&_, _||_}
+use mathlib.Core.List.{List, [], _∷_, map}
 use lib.Dec.{leb, eqb}
+use lib.ListN.{getD}
+use Rattle.answer.specs.Lists.{some}
 use Rattle.label.specs.declared.Label.{Label}
 use Rattle.label.specs.declared.pil.Service.{Service}
 use Rattle.label.specs.declared.pil.Service.the-variants.{Programme, TimerControl, InhibitTerminate, Interruption, Continuation, NoSpecificValue}
@@ -46,6 +48,31 @@ isContinuation NoSpecificValue = false
 -- what a place holds after a label at second t: 'a continuation code puts no label', 'other service codes and no-specific-value stand as labels'
 unfoldable pub heardAt : ℕ → Label → Stamped → Stamped
 heardAt t l old = cond (isContinuation (serviceOf (l .pil))) (renewed t old) (stamped t l)
+
+-- ── When the labels fail (02, #105) ────────────────────────────────────────────────────────────────────────────────
+-- the labels at the places of a tuner, 'ordered by tuner, then LCI'
+abbrev pub ofTuner : ℕ → List Stamped → List Stamped
+ofTuner tuner ls = map (λ lci. getD ls (tuner * 4 + lci) noLabel) (0 ∷ 1 ∷ 2 ∷ 3 ∷ [])
+
+abbrev pub isTimerControl : Service → Bool
+isTimerControl Programme = false
+isTimerControl TimerControl = true
+isTimerControl InhibitTerminate = false
+isTimerControl Interruption = false
+isTimerControl Continuation = false
+isTimerControl NoSpecificValue = false
+
+-- 'timer-control stands'
+unfoldable pub timerControl : ℕ → Stamped → Bool
+timerControl s l = stands s l && isTimerControl (serviceOf (l .pil))
+
+-- 'no label stands on any place .., or timer-control stands on one'
+abbrev pub failAmong : ℕ → List Stamped → Bool
+failAmong s ls = not (some (stands s) ls) || some (timerControl s) ls
+
+-- the same of 'the home tuner'
+unfoldable pub labelsFail : ℕ → List Stamped → ℕ → Bool
+labelsFail s ls tuner = failAmong s (ofTuner tuner ls)
 
 -- ── The lowest ─────────────────────────────────────────────────────────────────────────────────────────────────────
 pub data Found : Type 0 where

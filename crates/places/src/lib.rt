@@ -8,6 +8,7 @@ ghost use Rattle.places.specs.Places.{noLabel, stands};
 use crate::standing::no_label;
 use crate::standing::stands;
 
+pub mod failing; // a tuner without labels
 pub mod standing; // what a place holds, and how long it stands
 
 // What a place last heard. A place that has heard nothing yet is the value with `heard` false. The wider fields of a struct come first, so that

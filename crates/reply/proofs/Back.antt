@@ -55,11 +55,14 @@ wait-back WaitAnswer.Past = refl
 wait-back (WaitAnswer.Walked n) = refl
 
 abbrev pub addBack : Answer ℕ → AddAnswer
-addBack (refused n) = cond (eqb n 11) AddAnswer.NotReal (cond (eqb n 12) AddAnswer.Ended (cond (eqb n 13) AddAnswer.Held AddAnswer.Full))
+addBack (refused n) =
+    cond (eqb n 11) AddAnswer.NotReal
+    (cond (eqb n 17) AddAnswer.OutOfRange (cond (eqb n 12) AddAnswer.Ended (cond (eqb n 13) AddAnswer.Held AddAnswer.Full)))
 addBack (given i) = AddAnswer.Slot i
 
 pub add-back : (a : AddAnswer) → addBack (addAnswer a) ≡ a
 add-back AddAnswer.NotReal = refl
+add-back AddAnswer.OutOfRange = refl
 add-back AddAnswer.Ended = refl
 add-back AddAnswer.Held = refl
 add-back AddAnswer.Full = refl
@@ -76,7 +79,8 @@ abbrev stateBack : Says → State
 stateBack s =
     cond (eqb (s .state) 0) State.Waiting
     (cond (eqb (s .state) 1) State.Prepared
-    (cond (eqb (s .state) 2) (State.Recording (s .place)) (cond (eqb (s .state) 3) (State.RunningOn (s .place)) State.Ended)))
+    (cond (eqb (s .state) 2) (State.Recording (s .place))
+    (cond (eqb (s .state) 3) (State.RunningOn (s .place)) (cond (eqb (s .state) 4) State.Ended State.ByTheClock))))
 
 abbrev pub askBack : Answer Says → AskAnswer
 askBack (refused n) = AskAnswer.NoTimer
@@ -89,6 +93,7 @@ ask-back (AskAnswer.Says State.Prepared) = refl
 ask-back (AskAnswer.Says (State.Recording p)) = refl
 ask-back (AskAnswer.Says (State.RunningOn p)) = refl
 ask-back (AskAnswer.Says State.Ended) = refl
+ask-back (AskAnswer.Says State.ByTheClock) = refl
 
 abbrev pub secondBack : ℕ → SecondAnswer
 secondBack n = cond (eqb n 0) SecondAnswer.Done SecondAnswer.Past

@@ -28,9 +28,10 @@ waitAnswer WaitAnswer.Before = refused 9
 waitAnswer WaitAnswer.Past = refused 10
 waitAnswer (WaitAnswer.Walked n) = given n
 
--- 11 not real, 12 window has ended, 13 the same timer is held, 14 all slots held
+-- 11 not real, 17 home tuner or length out of range (02, #105), 12 window has ended, 13 the same timer is held, 14 all slots held
 abbrev pub addAnswer : AddAnswer → Answer ℕ
 addAnswer AddAnswer.NotReal = refused 11
+addAnswer AddAnswer.OutOfRange = refused 17
 addAnswer AddAnswer.Ended = refused 12
 addAnswer AddAnswer.Held = refused 13
 addAnswer AddAnswer.Full = refused 14
@@ -40,7 +41,7 @@ abbrev pub cancelNumber : CancelAnswer → ℕ
 cancelNumber CancelAnswer.NoTimer = 15
 cancelNumber CancelAnswer.Done = 0
 
--- what asking gives: 0 waiting, 1 prepared, 2 recording, 3 running on, 4 ended, and the place of the third and the fourth
+-- what asking gives: 0 waiting, 1 prepared, 2 recording, 3 running on, 4 ended, 5 by the clock (02, #105), and the place of the third and the fourth
 pub record Says : Type 0 where
   pub state : ℕ
   pub place : ℕ
@@ -51,6 +52,7 @@ stateSays State.Prepared = record { state = 1; place = 0 }
 stateSays (State.Recording p) = record { state = 2; place = p }
 stateSays (State.RunningOn p) = record { state = 3; place = p }
 stateSays State.Ended = record { state = 4; place = 0 }
+stateSays State.ByTheClock = record { state = 5; place = 0 }
 
 abbrev pub askAnswer : AskAnswer → Answer Says
 askAnswer AskAnswer.NoTimer = refused 15

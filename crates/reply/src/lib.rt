@@ -66,9 +66,10 @@ impl WaitAnswer {
     }
 }
 
-// Refusals 11 to 14, or the slot.
+// Refusals 11, 17, 12, 13 and 14, or the slot.
 pub enum AddAnswer {
     NotReal,
+    OutOfRange,
     Ended,
     Held,
     Full,
@@ -82,6 +83,7 @@ impl AddAnswer {
     {
         match self {
             AddAnswer::NotReal => 11,
+            AddAnswer::OutOfRange => 17,
             AddAnswer::Ended => 12,
             AddAnswer::Held => 13,
             AddAnswer::Full => 14,
@@ -115,10 +117,11 @@ pub enum State {
     Recording { place: u8 },
     RunningOn { place: u8 },
     Ended,
+    ByTheClock,
 }
 
 impl State {
-    // Its number in the paper's order of the five, from 0.
+    // Its number in the paper's order, from 0: the five, and by the clock after them.
     pub fn number(self) -> u8
         ensures { λ n. ⌜ n ≡ stateSays self .state ⌝ }
     {
@@ -128,6 +131,7 @@ impl State {
             State::Recording { place: _ } => 2,
             State::RunningOn { place: _ } => 3,
             State::Ended => 4,
+            State::ByTheClock => 5,
         }
     }
 }

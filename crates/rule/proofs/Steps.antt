@@ -1,35 +1,24 @@
--- Where the code may leave a test out: a timer that is not live sees nothing once its window has ended, and a free slot stays free.
+-- Where the code may leave a test out: a timer that is not live sees nothing once its window has ended and is not by the clock, and a free slot
+-- stays free.
 use Prim.Native.Nat.{ℕ}
 use mathlib.Core.Path.{_≡_, refl, sym, ap, _∙_}
-use mathlib.Core.Bool.{Bool, true, false, cond, and-false, true≢false}
+use mathlib.Core.Bool.{Bool, true, false, cond, true≢false}
 use mathlib.Core.List.{List}
-use borrow.Author.Tests.{leb-true, le-ltb}
-use Rattle.answer.specs.Answer.{Answer, refused, given}
-use Rattle.calendar.specs.declared.Window.{Window}
-use Rattle.calendar.specs.Calendar.{windowIn}
 use lib.ListN.{getD}
 use Rattle.answer.proofs.Cases.{by-test, both-true}
 use Rattle.places.specs.Places.{noLabel}
-use Rattle.matching.specs.Matching.{openIn, closedIn, openAt, endedAt, matches, sightOf}
-use Rattle.rule.specs.Rule.{recordingAt, notLive, fromPrepared, movesOr, fromRecording, fromRunningOn, held, nextCopy, nextTimer}
+use Rattle.matching.specs.Matching.{openAt, endedAt, matches, sightOf}
+use Rattle.rule.specs.Rule.{recordingAt, clockOr, notLive, fromPrepared, movesOr, fromRecording, fromRunningOn, held, nextCopy, nextTimer}
 use Rattle.matching.specs.Look.{named}
 use Rattle.places.specs.declared.Stamped.{Stamped}
 use Rattle.matching.specs.declared.Booking.{Booking}
 use Rattle.rule.specs.declared.Copy.{Copy}
-use Rattle.rule.specs.declared.Copy.the-variants.{Free, Waiting, Prepared, Recording, RunningOn}
+use Rattle.rule.specs.declared.Copy.the-variants.{Free, Waiting, Prepared, Recording, RunningOn, ByTheClock}
 use Rattle.rule.specs.declared.Timer.{Timer}
 use Rattle.matching.specs.declared.Sight.{Sight}
 use Rattle.matching.specs.declared.Sight.the-variants.{Nothing, Prepare, Start}
 use Rattle.matching.proofs.Sights.{match-named, sight-shut}
-
-ended-in : (s : ℕ) (a : Answer Window) → closedIn s a ≡ true → openIn s a ≡ false
-ended-in s (refused n) e = refl
-ended-in s (given w) e = rw (le-ltb s (w .closes) (leb-true (w .closes) s e), and-false)
-
--- a window that has ended is not open
-ended-shut : (s : ℕ) (b : Booking) → endedAt s b ≡ true → openAt s b ≡ false
-unfolding endedAt openAt
-ended-shut s b e = ended-in s (windowIn (b .pil) (b .year)) e
+use Rattle.clocked.proofs.Parts.{ended-shut, clocked-shut}
 
 -- a label that matches has an open window, and that has not ended
 match-open : (s : ℕ) (b : Booking) (l : Stamped) → matches s b l ≡ true → endedAt s b ≡ false
@@ -38,24 +27,35 @@ match-open s b l e =
     by-test (endedAt s b) (λ d. absurd (true≢false (sym o ∙ ended-shut s b d))) (λ d. d)
 
 -- what is not live moves to the lowest place with PRF 0 too
-pub moves-not-live : (s : ℕ) (ls : List Stamped) (seen : Sight) → movesOr ls seen (notLive s ls seen) ≡ notLive s ls seen
-moves-not-live s ls Nothing = refl
-moves-not-live s ls (Prepare q) = refl
-moves-not-live s ls (Start q) = refl
+pub moves-not-live : (s : ℕ) (ls : List Stamped) (b : Booking) (seen : Sight) → movesOr ls seen (notLive s ls b seen) ≡ notLive s ls b seen
+moves-not-live s ls b Nothing = refl
+moves-not-live s ls b (Prepare q) = refl
+moves-not-live s ls b (Start q) = refl
 
 module _ (s : ℕ) (ls : List Stamped) (b : Booking) where
+  shut-waits : openAt s b ≡ false → clockOr s ls b Waiting ≡ Waiting
+  unfolding clockOr
+  shut-waits e = rw (clocked-shut s ls b e)
+
   -- once the window has ended a timer that is not live waits, also by what it sees
-  ended-waits : (by-sight : Sight → Copy) → by-sight Nothing ≡ Waiting →
+  ended-waits : (by-sight : Sight → Copy) → by-sight Nothing ≡ clockOr s ls b Waiting →
       cond (endedAt s b) Waiting (by-sight (sightOf s ls b)) ≡ by-sight (sightOf s ls b)
-  ended-waits f n = by-test (endedAt s b) (λ e. rw (e, sight-shut s ls b (ended-shut s b e)) (sym n)) (λ e. rw e)
+  ended-waits f n =
+      by-test (endedAt s b)
+      (λ e. let shut = ended-shut s b e in rw (e, sight-shut s ls b shut) (sym (n ∙ shut-waits shut)))
+      (λ e. rw e)
 
-  pub next-waiting : nextCopy s ls b Waiting ≡ notLive s ls (sightOf s ls b)
+  pub next-waiting : nextCopy s ls b Waiting ≡ notLive s ls b (sightOf s ls b)
   unfolding nextCopy
-  next-waiting = ended-waits (notLive s ls) refl
+  next-waiting = ended-waits (notLive s ls b) refl
 
-  pub next-prepared : (v : ℕ) → nextCopy s ls b (Prepared v) ≡ fromPrepared s ls v (sightOf s ls b)
+  pub next-by-clock : nextCopy s ls b ByTheClock ≡ notLive s ls b (sightOf s ls b)
   unfolding nextCopy
-  next-prepared v = ended-waits (fromPrepared s ls v) refl
+  next-by-clock = ended-waits (notLive s ls b) refl
+
+  pub next-prepared : (v : ℕ) → nextCopy s ls b (Prepared v) ≡ fromPrepared s ls b v (sightOf s ls b)
+  unfolding nextCopy
+  next-prepared v = ended-waits (fromPrepared s ls b v) refl
 
   -- what is live, by the tests that lead to each case
   pub live-over : (c : Copy) → held c ≡ true → endedAt s b ≡ true → nextCopy s ls b c ≡ Waiting
@@ -67,7 +67,7 @@ module _ (s : ℕ) (ls : List Stamped) (b : Booking) where
   recording-stays p mi m = rw (match-open s b (getD ls p noLabel) m, m)
 
   pub recording-leaves : (p : ℕ) (mi : Bool) → matches s b (getD ls p noLabel) ≡ false → endedAt s b ≡ false →
-      nextCopy s ls b (Recording p mi) ≡ movesOr ls (sightOf s ls b) (cond mi (notLive s ls (sightOf s ls b)) (RunningOn p s))
+      nextCopy s ls b (Recording p mi) ≡ movesOr ls (sightOf s ls b) (cond mi (notLive s ls b (sightOf s ls b)) (RunningOn p s))
   unfolding nextCopy fromRecording
   recording-leaves p mi m e = rw (e, m)
 
@@ -82,6 +82,7 @@ not-held Waiting e = absurd (true≢false e)
 not-held (Prepared v) e = absurd (true≢false e)
 not-held (Recording p mi) e = absurd (true≢false e)
 not-held (RunningOn p v) e = absurd (true≢false e)
+not-held ByTheClock e = absurd (true≢false e)
 
 pub free-copy : (s : ℕ) (ls : List Stamped) (b : Booking) (c : Copy) → held c ≡ false → nextCopy s ls b c ≡ c
 unfolding nextCopy

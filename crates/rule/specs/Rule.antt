@@ -8,24 +8,30 @@ use lib.ListN.{getD}
 use Rattle.places.specs.declared.Stamped.{Stamped}
 use Rattle.matching.specs.declared.Booking.{Booking}
 use Rattle.rule.specs.declared.Copy.{Copy}
-use Rattle.rule.specs.declared.Copy.the-variants.{Free, Waiting, Prepared, Recording, RunningOn}
+use Rattle.rule.specs.declared.Copy.the-variants.{Free, Waiting, Prepared, Recording, RunningOn, ByTheClock}
 use Rattle.rule.specs.declared.Timer.{Timer}
 use Rattle.matching.specs.declared.Sight.{Sight}
 use Rattle.matching.specs.declared.Sight.the-variants.{Nothing, Prepare, Start}
 use Rattle.places.specs.Places.{noLabel}
 use Rattle.matching.specs.Matching.{endedAt, matches, sightOf}
+use Rattle.clocked.specs.Clocked.{clocked}
 
 -- ── Moments: how a copy goes on at second s ────────────────────────────────────────────────────────────────────────
 -- 'whenever a copy becomes recording at a place or moves to one, it remembers the MI of the label there'
 unfoldable pub recordingAt : List Stamped → ℕ → Copy
 recordingAt ls p = Recording p (getD ls p noLabel .mi)
 
+-- for want of PRF 0: by the clock where that applies, 'which comes before prepared, and before the start after its 60 seconds, and ends it' (02,
+-- #105), or else as is said next
+unfoldable pub clockOr : ℕ → List Stamped → Booking → Copy → Copy
+clockOr s ls b next = cond (clocked s ls b) ByTheClock next
+
 -- 'not live: the lowest match with PRF 0 makes it recording. Failing that, any match with PRF 1 makes it prepared. Else it waits.'
 -- 'The copy keeps the second at which it became prepared' (02, #101), which is this one
-abbrev pub notLive : ℕ → List Stamped → Sight → Copy
-notLive s ls (Start q) = recordingAt ls q
-notLive s ls (Prepare q) = Prepared s
-notLive s ls Nothing = Waiting
+abbrev pub notLive : ℕ → List Stamped → Booking → Sight → Copy
+notLive s ls b (Start q) = recordingAt ls q
+notLive s ls b (Prepare q) = clockOr s ls b (Prepared s)
+notLive s ls b Nothing = clockOr s ls b Waiting
 
 -- how long a copy is prepared
 abbrev pub prepareFor : ℕ
@@ -33,10 +39,10 @@ prepareFor = 60
 
 -- prepared from second v, it goes on as a timer that is not live, except that it keeps its second, and that 'a timer that has been prepared
 -- without a break for more than 60 seconds now starts recording at the lowest place that matches' (02, #101)
-abbrev pub fromPrepared : ℕ → List Stamped → ℕ → Sight → Copy
-fromPrepared s ls v (Start q) = recordingAt ls q
-fromPrepared s ls v (Prepare q) = cond (ltb prepareFor (s - v)) (recordingAt ls q) (Prepared v)
-fromPrepared s ls v Nothing = Waiting
+abbrev pub fromPrepared : ℕ → List Stamped → Booking → ℕ → Sight → Copy
+fromPrepared s ls b v (Start q) = recordingAt ls q
+fromPrepared s ls b v (Prepare q) = clockOr s ls b (cond (ltb prepareFor (s - v)) (recordingAt ls q) (Prepared v))
+fromPrepared s ls b v Nothing = clockOr s ls b Waiting
 
 -- to the lowest place with a match and PRF 0, or else as is said next
 abbrev pub movesOr : List Stamped → Sight → Copy → Copy
@@ -50,7 +56,7 @@ movesOr ls Nothing next = next
 unfoldable pub fromRecording : ℕ → List Stamped → Booking → ℕ → Bool → Copy
 fromRecording s ls b p mi =
     cond (matches s b (getD ls p noLabel)) (recordingAt ls p)
-    (movesOr ls (sightOf s ls b) (cond mi (notLive s ls (sightOf s ls b)) (RunningOn p s)))
+    (movesOr ls (sightOf s ls b) (cond mi (notLive s ls b (sightOf s ls b)) (RunningOn p s)))
 
 -- how long a copy runs on
 abbrev pub runFor : ℕ
@@ -60,15 +66,16 @@ runFor = 30
 -- moment as a timer that is not live.'
 unfoldable pub fromRunningOn : ℕ → List Stamped → Booking → ℕ → ℕ → Copy
 fromRunningOn s ls b p v =
-    movesOr ls (sightOf s ls b) (cond (ltb (s - v) runFor) (RunningOn p v) (notLive s ls (sightOf s ls b)))
+    movesOr ls (sightOf s ls b) (cond (ltb (s - v) runFor) (RunningOn p v) (notLive s ls b (sightOf s ls b)))
 
 -- the copy's next state, by cases of its present one
 abbrev pub goesOn : ℕ → List Stamped → Booking → Copy → Copy
 goesOn s ls b Free = Free
-goesOn s ls b Waiting = notLive s ls (sightOf s ls b)
-goesOn s ls b (Prepared v) = fromPrepared s ls v (sightOf s ls b)
+goesOn s ls b Waiting = notLive s ls b (sightOf s ls b)
+goesOn s ls b (Prepared v) = fromPrepared s ls b v (sightOf s ls b)
 goesOn s ls b (Recording p mi) = fromRecording s ls b p mi
 goesOn s ls b (RunningOn p v) = fromRunningOn s ls b p v
+goesOn s ls b ByTheClock = notLive s ls b (sightOf s ls b)  -- 'under Moments the timer is treated as not live' (02, #105)
 
 abbrev pub held : Copy → Bool
 held Free = false
@@ -76,6 +83,7 @@ held Waiting = true
 held (Prepared v) = true
 held (Recording p mi) = true
 held (RunningOn p v) = true
+held ByTheClock = true
 
 -- 'a closed window comes before all of these: it ends a recording or run-on at once'
 unfoldable pub nextCopy : ℕ → List Stamped → Booking → Copy → Copy
@@ -84,13 +92,26 @@ nextCopy s ls b c = cond (held c && endedAt s b) Waiting (goesOn s ls b c)
 unfoldable pub nextTimer : ℕ → List Stamped → Timer → Timer
 nextTimer s ls t = record { booking = t .booking; copy = nextCopy s ls (t .booking) (t .copy) }
 
--- 'live means recording or running on'
+-- 'recording or running on': live by its labels
+abbrev pub byLabels : Copy → Bool
+byLabels Free = false
+byLabels Waiting = false
+byLabels (Prepared v) = false
+byLabels (Recording p mi) = true
+byLabels (RunningOn p v) = true
+byLabels ByTheClock = false
+
+-- 'live means recording or running on'; by the clock 'counts as live' (02, #105)
 abbrev pub isLive : Copy → Bool
 isLive Free = false
 isLive Waiting = false
 isLive (Prepared v) = false
 isLive (Recording p mi) = true
 isLive (RunningOn p v) = true
+isLive ByTheClock = true
+
+abbrev pub byLabelsTimer : Timer → Bool
+byLabelsTimer t = byLabels (t .copy)
 
 abbrev pub liveTimer : Timer → Bool
 liveTimer t = isLive (t .copy)

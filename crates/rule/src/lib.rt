@@ -14,6 +14,7 @@ pub enum Copy {
     Prepared { since: u32 },
     Recording { place: u8, mi: bool },
     RunningOn { place: u8, since: u32 },
+    ByTheClock,
 }
 
 pub struct Timer {

@@ -12,9 +12,9 @@ use Rattle.desk.specs.Calls.{packetOf}
 use Rattle.items.proofs.Numbers.{places, first, number}
 use Rattle.sheet.specs.Sheet.{bookingIn, packetIn}
 
-pub booking : (l : List ℕ) (c p : ℕ) → 6 ≤ length l → c ≡ numberOf (places 0 2 l) → p ≡ numberOf (places 2 3 l) →
-    record { cni = c; pil = p; year = getD l 5 0 } ≡ bookingIn (take 6 l)
-booking l c p h e f = rw (first 6 l h, e, f)
+pub booking : (l : List ℕ) (c p n : ℕ) → 9 ≤ length l → c ≡ numberOf (places 0 2 l) → p ≡ numberOf (places 2 3 l) → n ≡ numberOf (places 7 2 l) →
+    record { cni = c; pil = p; year = getD l 5 0; tuner = getD l 6 0; length = n } ≡ bookingIn (take 9 l)
+booking l c p n h e f g = rw (first 9 l h, e, f, g)
 
 pub packet-bytes : (l : List ℕ) (t : ℕ) (d : Desk) → length l ≡ 47 → t ≡ numberOf (places 0 4 l) →
     packetOf (getD l 4 0) t (take 42 (drop 5 l)) d ≡ packetIn (take 47 l) d

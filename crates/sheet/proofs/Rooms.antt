@@ -57,7 +57,7 @@ item-short (packet i) d = packet-short (number (packetIn i d)) (liveCount (packe
 pub found-short : (f : Found) (held : List ℕ) (d : Desk) → length (linesOf (itemsFound f held) d) ≤ longest
 unfolding linesOf
 found-short Nothing held d = omega arith
-found-short Timer held d = rw (append-nil (itemTold (timer (take 6 held)) d)) (item-short (timer (take 6 held)) d)
+found-short Timer held d = rw (append-nil (itemTold (timer (take 9 held)) d)) (item-short (timer (take 9 held)) d)
 found-short Packet held d = rw (append-nil (itemTold (packet (take 47 held)) d)) (item-short (packet (take 47 held)) d)
 
 -- so does one byte

@@ -1,4 +1,4 @@
--- No number that a sheet prints is above 16.
+-- No number that a sheet prints is above 17.
 use Prim.Native.Nat.{ℕ, zero, suc, _+_, _-_, _≤_, _<_}
 use mathlib.Core.Path.{_≡_, refl, _∙_}
 use mathlib.Core.Bool.{Bool, true, false, cond, not, _||_, true≢false}
@@ -60,18 +60,18 @@ add-slot b d = go (windowIn (b .pil) (b .year)) _ refl
     go : (w : Answer Window) (a : Told) → a .says ≡ slotOf (roomIn d) → Slot n (andThen w (λ v. firstOf (addRows b d v) a))
     go (refused k) a e = tt
     go (given w) a e =
-        first-holds (Slot n) a (addRows b d w) (tt, (tt, (tt, tt)))
-        (λ none. rw e (slot-below (roomIn d) n (found-below _ 0 n (d .timers) (omega arith)) (none .1 .1 .0)))
+        first-holds (Slot n) a (addRows b d w) (tt, (tt, (tt, (tt, tt))))
+        (λ none. rw e (slot-below (roomIn d) n (found-below _ 0 n (d .timers) (omega arith)) (none .1 .1 .1 .0)))
 
 -- a slot that is told is one of the desk's
 pub slot-inside : (b : Booking) (d : Desk) (t : Told) → addOf b d ≡ given t → t .says < length (d .timers)
 slot-inside b d t e = rw e at (add-slot b d)
 
 -- ── refusals of a timer ────────────────────────────────────────────────────────────────────────────────────────────
-pub small-refusal : (b : Booking) (d : Desk) → number (addOf b d) ≤ 16
+pub small-refusal : (b : Booking) (d : Desk) → number (addOf b d) ≤ 17
 unfolding addOf windowIn
 small-refusal b d =
-    first-holds (λ x. number (andThen x booked) ≤ 16) (windowAt (b .pil) (b .year))
+    first-holds (λ x. number (andThen x booked) ≤ 17) (windowAt (b .pil) (b .year))
     ((ltb 99 (b .year) || not (twentyBits (b .pil)) || not (realIn (b .pil) (b .year)), 11) ∷ []) (omega arith) (λ none. small-booked (windowAt (b .pil) (b .year)))
   where
     booked : Window → Answer Told
@@ -81,8 +81,8 @@ small-refusal b d =
           desk = moment (withTimer (slotOf (roomIn d)) (record { booking = b; copy = Waiting }) d);
         })
 
-    small-booked : (w : Window) → number (booked w) ≤ 16
-    small-booked w = first-holds (λ x. number x ≤ 16) _ (addRows b d w) (omega arith) (omega arith)
+    small-booked : (w : Window) → number (booked w) ≤ 17
+    small-booked w = first-holds (λ x. number x ≤ 17) _ (addRows b d w) (omega arith) (omega arith)
 
 -- ── answers ────────────────────────────────────────────────────────────────────────────────────────────────────────
 pub small-answer : (tuner t : ℕ) (bytes : List ℕ) (d : Desk) → number (packetOf tuner t bytes d) ≤ 16
@@ -133,7 +133,7 @@ add-kept b d = go (windowIn (b .pil) (b .year))
         Told-kept d (andThen w (λ v. firstOf (addRows b d v) (record { says = slotOf (roomIn d); desk = moment (withTimer (slotOf (roomIn d)) t d) })))
     go (refused k) = refl
     go (given w) =
-        first-holds (Told-kept d) _ (addRows b d w) (refl, (refl, (refl, tt)))
+        first-holds (Told-kept d) _ (addRows b d w) (refl, (refl, (refl, (refl, tt))))
         (λ none. moment-kept (withTimer (slotOf (roomIn d)) t d) ∙ length-set (d .timers) (slotOf (roomIn d)) t)
 
 packet-kept : (tuner s : ℕ) (bytes : List ℕ) (d : Desk) → Desk-kept d (packetOf tuner s bytes d)

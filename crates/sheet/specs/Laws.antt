@@ -27,9 +27,9 @@ pub record Laws : Type 0 where
   pub pieces : (ps : List (List ℕ)) → printed ps blank ≡ sheetOf (joined ps)
   -- once a byte is left over, whatever follows prints `X live` alone, with the count of now: nothing more need be read
   pub settled : (s : Sheet) (ps : List (List ℕ)) → leftOver (s .split .stage) ≡ true → printed ps s ≡ brokenLine (s .desk)
-  -- no number that a sheet prints is above 16: slots, refusals, answers, and the live timers of sixteen
+  -- no number that a sheet prints is above 17: slots, refusals, answers, and the live timers of sixteen
   pub small-slot : (b : Booking) (d : Desk) (t : Told) → length (d .timers) ≡ 16 → addOf b d ≡ given t → t .says < 16
-  pub small-refusal : (b : Booking) (d : Desk) → number (addOf b d) ≤ 16
+  pub small-refusal : (b : Booking) (d : Desk) → number (addOf b d) ≤ 17
   pub small-answer : (tuner t : ℕ) (bytes : List ℕ) (d : Desk) → number (packetOf tuner t bytes d) ≤ 16
   pub small-count : (d : Desk) → length (d .timers) ≡ 16 → liveCount d ≤ 16
   pub timers-kept : (item : List ℕ) (d : Desk) → (length (timerLeft item d .timers) ≡ length (d .timers)) × (length (packetLeft item d .timers) ≡ length (d .timers))

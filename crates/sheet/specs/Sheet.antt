@@ -36,9 +36,15 @@ abbrev pub brokenLine : Desk → List ℕ
 brokenLine d = 88 ∷ space ∷ decimal (liveCount d) ++ (lineFeed ∷ [])
 
 -- ── items ──────────────────────────────────────────────────────────────────────────────────────────────────────────
--- '6 bytes each: CNI 2, PIL 3, year 1'
+-- '6 bytes each: CNI 2, PIL 3, year 1'; the entry 'grows by tuner (1 byte) and length (2 bytes)' (02, #105)
 abbrev pub bookingIn : List ℕ → Booking
-bookingIn item = record { cni = numberOf (take 2 item); pil = numberOf (take 3 (drop 2 item)); year = getD item 5 0 }
+bookingIn item = record {
+  cni = numberOf (take 2 item);
+  pil = numberOf (take 3 (drop 2 item));
+  year = getD item 5 0;
+  tuner = getD item 6 0;
+  length = numberOf (take 2 (drop 7 item));
+}
 
 unfoldable pub timerTold : List ℕ → Desk → List ℕ
 timerTold item d = timerLine (saidBy (addOf (bookingIn item) d))

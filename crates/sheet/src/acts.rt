@@ -20,15 +20,16 @@ pub(crate) struct Left {
     pub(crate) at: usize,
 }
 
-// '6 bytes each: CNI 2, PIL 3, year 1.'
+// '6 bytes each: CNI 2, PIL 3, year 1', and then 'tuner (1 byte) and length (2 bytes)'.
 fn timer(desk: Desk, held: [u8; 47], out: &mut [u8], at: usize) -> Left
     requires { ⌜ at + longest ≤ length (now out) ⌝ }
-    ensures { λ r. ⌜ (r ≡ record { desk = timerLeft (take 6 held) desk; at = at + length (timerTold (take 6 held) desk) })
-        × (now (out .exit) ≡ sets (now (out .entry)) at (timerTold (take 6 held) desk)) ⌝ }
+    ensures { λ r. ⌜ (r ≡ record { desk = timerLeft (take 9 held) desk; at = at + length (timerTold (take 9 held) desk) })
+        × (now (out .exit) ≡ sets (now (out .entry)) at (timerTold (take 9 held) desk)) ⌝ }
 {
     let cni = pair(held[0], held[1]);
     let pil = triple(held[2], held[3], held[4]);
-    let added = desk.add(cni, pil, held[5]);
+    let length = pair(held[7], held[8]);
+    let added = desk.add(cni, pil, held[5], held[6], length);
     let answer = added.answer;
     let moved = added.desk;
     let next = timer_line(out, at, answer);

@@ -4,7 +4,7 @@ use mathlib.Core.List.{map}
 use lib.ListN.{getD, set}
 use Rattle.answer.specs.Lists.{some, count}
 use Rattle.answer.proofs.Answers.{equation}
-use Rattle.rule.specs.Rule.{liveTimer, nextTimer}
+use Rattle.rule.specs.Rule.{byLabelsTimer, liveTimer, nextTimer}
 use Rattle.sixteen.specs.Sixteen.{noTimer, active, sameBooking, roomAt, slotOf}
 use Rattle.sixteen.specs.Laws.{Laws}
 
@@ -17,5 +17,5 @@ laws = record {
   room-unique = λ s ts m n p q. equation (slotOf (roomAt s ts)) m n (p .0) (q .0);
   all-next-unique = λ s ls ts. equation (map (nextTimer s ls) ts);
   count-live-unique = λ ts. equation (count liveTimer ts);
-  any-live-unique = λ ts. equation (some liveTimer ts);
+  any-by-labels-unique = λ ts. equation (some byLabelsTimer ts);
 }

@@ -10,7 +10,7 @@ use Rattle.answer.specs.Lists.{some, count}
 use Rattle.places.specs.declared.Stamped.{Stamped}
 use Rattle.matching.specs.declared.Booking.{Booking}
 use Rattle.rule.specs.declared.Timer.{Timer}
-use Rattle.rule.specs.Rule.{liveTimer, nextTimer}
+use Rattle.rule.specs.Rule.{byLabelsTimer, liveTimer, nextTimer}
 use Rattle.sixteen.specs.Sixteen.{noTimer, active, sameBooking, roomAt, isNowhere, slotOf}
 
 pub record Laws : Type 0 where
@@ -21,4 +21,4 @@ pub record Laws : Type 0 where
   pub room-unique : (s : ℕ) (ts : List Timer) → Unique (λ r. (r ≡ slotOf (roomAt s ts)) × (leb 16 r ≡ isNowhere (roomAt s ts)))
   pub all-next-unique : (s : ℕ) (ls : List Stamped) (ts : List Timer) → Unique (λ r. r ≡ map (nextTimer s ls) ts)
   pub count-live-unique : (ts : List Timer) → Unique (λ r. r ≡ count liveTimer ts)
-  pub any-live-unique : (ts : List Timer) → Unique (λ r. r ≡ some liveTimer ts)
+  pub any-by-labels-unique : (ts : List Timer) → Unique (λ r. r ≡ some byLabelsTimer ts)

@@ -11,7 +11,7 @@ use Rattle.rule.specs.declared.Timer.{Timer}
 use Rattle.rule.specs.declared.Copy.the-variants.{Free}
 
 abbrev pub noBooking : Booking
-noBooking = record { cni = 0; pil = 0; year = 0 }
+noBooking = record { cni = 0; pil = 0; year = 0; tuner = 0; length = 0 }
 
 -- a free slot
 abbrev pub noTimer : Timer
@@ -21,7 +21,7 @@ noTimer = record { booking = noBooking; copy = Free }
 abbrev pub active : ℕ → Timer → Bool
 active s t = held (t .copy) && not (endedAt s (t .booking))
 
--- 'two timers are the same if all three agree'
+-- 'two timers are the same if all three agree', whatever home tuner and length
 abbrev pub sameBooking : Booking → Booking → Bool
 sameBooking a b = eqb (a .cni) (b .cni) && eqb (a .pil) (b .pil) && eqb (a .year) (b .year)
 

@@ -5,13 +5,14 @@ ghost use mathlib.Core.Path.{_≡_};
 ghost use lib.Dec.{leb};
 ghost use lib.ListN.{getD, set};
 ghost use Rattle.answer.specs.Lists.{some, count};
-ghost use Rattle.rule.specs.Rule.{liveTimer, nextTimer};
+ghost use Rattle.rule.specs.Rule.{byLabelsTimer, liveTimer, nextTimer};
 ghost use Rattle.sixteen.specs.Sixteen.{noTimer, active, sameBooking, roomAt, isNowhere, slotOf};
 use matching::Booking;
 use matching::windows::ended_at;
 use places::Stamped;
 use rule::Copy;
 use rule::Timer;
+use rule::copies::is_by_labels;
 use rule::copies::is_held;
 use rule::copies::is_live;
 use rule::copies::next_timer;
@@ -22,7 +23,9 @@ pub fn no_timer() -> Timer
     let b = Booking {
         pil: 0,
         cni: 0,
+        length: 0,
         year: 0,
+        tuner: 0,
     };
     Timer {
         booking: b,
@@ -151,15 +154,16 @@ pub fn count_live(timers: [Timer; 16]) -> u32
     n
 }
 
-pub fn any_live(timers: [Timer; 16]) -> bool
-    ensures { λ r. ⌜ r ≡ some liveTimer timers ⌝ }
+// 'Recording or running on.'
+pub fn any_by_labels(timers: [Timer; 16]) -> bool
+    ensures { λ r. ⌜ r ≡ some byLabelsTimer timers ⌝ }
 {
     let mut i: usize = 0;
     while i < 16 {
         let t = timers[i];
         let c = t.copy;
-        let live = is_live(c);
-        if live {
+        let busy = is_by_labels(c);
+        if busy {
             return true;
         }
         i += 1;

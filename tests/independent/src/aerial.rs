@@ -2,7 +2,7 @@
 use crate::calendar::END;
 use crate::faults::faults;
 use crate::paper::{self, Nibble, Reading, HAMMING};
-use crate::sheet::{number, Input};
+use crate::sheet::{number, Input, TIMER};
 use std::fmt::Write;
 
 // Wrong readings of what is to be counted and printed, one at a time.
@@ -113,7 +113,7 @@ fn read(packet: &[u8], fault: Option<Fault>) -> Reading {
 /// The whole packets of a sheet, each a time, a tuner and 42 bytes; none where the input is short.
 fn packets(input: &mut Input, fault: Option<Fault>, mut heard: impl FnMut(u32, u8, &[u8])) -> Option<()> {
     let timers = number(input.take(1)?);
-    input.take(6 * timers as usize)?;
+    input.take(TIMER * timers as usize)?;
     for _ in 0..number(input.take(2)?) {
         if fault == Some(Fault::CutIsRefused) && (5..47).contains(&input.0.len()) {
             heard(number(&input.0[..4]), input.0[4], &input.0[5..]);
@@ -176,10 +176,10 @@ mod tests {
     #[test]
     fn cut_and_left_over() {
         let mut sheet = teaching::lessons()[0].sheet();
-        assert_eq!(sheet.len(), 150);
+        assert_eq!(sheet.len(), 153);
         for cut in 0..sheet.len() {
             let expected = match cut {
-                0..=55 => "X\n",
+                0..=58 => "X\n",
                 _ => "A 0 1 0 0 0\nX\n",
             };
             assert_eq!(print(&sheet[..cut]), expected, "cut at {cut}");

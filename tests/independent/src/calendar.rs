@@ -1,5 +1,5 @@
-//! The window of a PIL, by Julian day numbers. There is no table of months and no rule for leap years here: both lie in the
-//! formula of Fliegel and Van Flandern, and a date exists if its day number leads back to it.
+//! The window of a PIL and its announced second, by Julian day numbers. There is no table of months and no rule for leap years here:
+//! both lie in the formula of Fliegel and Van Flandern, and a date exists if its day number leads back to it.
 
 /// The clock's last second, still allowed.
 pub const END: u32 = 3_155_774_400;
@@ -46,15 +46,26 @@ pub fn date_at(second: u32) -> (u8, u32, u32) {
     ((y - 2000) as u8, m as u32, d as u32)
 }
 
-/// The seconds at which the window opens and closes, or refusal 11.
-pub fn window(pil: u32, year: u8) -> Result<(u32, u32), u8> {
+/// The second at which the date begins, and hour and minute; or refusal 11.
+fn date_and_time(pil: u32, year: u8) -> Result<(i64, i64, i64), u8> {
     let (day, month, hour, minute) = (pil >> 15, pil >> 11 & 15, pil >> 6 & 31, pil & 63);
     if pil >> 20 != 0 || year > 99 || hour > 23 || minute > 59 || !exists(year, month, day) {
         return Err(11);
     }
-    let midnight = DAY * day_number(year, month, day);
+    Ok((DAY * day_number(year, month, day), hour as i64, minute as i64))
+}
+
+/// The seconds at which the window opens and closes, or refusal 11.
+pub fn window(pil: u32, year: u8) -> Result<(u32, u32), u8> {
+    let (midnight, hour, _) = date_and_time(pil, year)?;
     let opens = if hour <= 3 { midnight - DAY + 20 * HOUR } else { midnight };
     Ok((opens.max(0) as u32, (midnight + DAY + 4 * HOUR) as u32))
+}
+
+/// The announced second, or refusal 11.
+pub fn announced(pil: u32, year: u8) -> Result<u32, u8> {
+    let (midnight, hour, minute) = date_and_time(pil, year)?;
+    Ok((midnight + HOUR * hour + 60 * minute) as u32)
 }
 
 #[cfg(test)]
@@ -70,6 +81,28 @@ mod tests {
         assert_eq!(window(pil(29, 2, 4, 0), 1), Err(11));
         assert_eq!(window(pil(1, 1, 2, 30), 0), Ok((0, 100_800)));
         assert_eq!(window(pil(31, 12, 20, 0), 99).map(|w| w.1), Ok(END));
+    }
+
+    /// The time of the whole case's first packet is 19:30:00 of its date.
+    #[test]
+    fn announced_seconds() {
+        assert_eq!(announced(0x7BCDE, 2), Ok(0x04C5_DF38));
+        assert_eq!(announced(pil(1, 1, 0, 0), 0), Ok(0));
+        assert_eq!(announced(pil(1, 1, 2, 30), 0), Ok(9_000));
+        assert_eq!(announced(pil(31, 12, 23, 59), 99), Ok(END - 4 * 3_600 - 60));
+        assert_eq!(announced(pil(29, 2, 4, 0), 1), Err(11));
+        assert_eq!(announced(1 << 20 | 0x7BCDE, 2), Err(11));
+    }
+
+    /// 'A length that reaches past the window's close' is one of a programme announced at 4:00 or later, since none is longer than a day.
+    #[test]
+    fn every_announced_second_lies_in_its_window() {
+        for pil in 0..1 << 20 {
+            if let (Ok((opens, closes)), Ok(at)) = (window(pil, 4), announced(pil, 4)) {
+                assert!(opens <= at && at < closes);
+                assert_eq!(closes - at <= 1_440 * 60, pil >> 6 & 31 >= 4, "{pil:05X}");
+            }
+        }
     }
 
     #[test]

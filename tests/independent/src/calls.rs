@@ -1,8 +1,9 @@
 //! A desk as something that answers calls, and calls in a row with all that they show. A sheet shows no more than what is live;
 //! this shows every slot after every call.
 use crate::desk::Desk;
+use crate::failing::Failing;
 use crate::random::Random;
-use crate::scenes::Scene;
+use crate::scenes::{out_of_range, Scene};
 use crate::stretch::Stretch;
 use std::fmt::Write;
 
@@ -13,6 +14,23 @@ pub enum State {
     Recording(u8),
     RunningOn(u8),
     Ended,
+    ByTheClock,
+}
+
+/// What is added: a home tuner and a length in minutes beside what makes two timers the same.
+#[derive(Clone, Copy, Debug, PartialEq, Eq)]
+pub struct Timer {
+    pub cni: u16,
+    pub pil: u32,
+    pub year: u8,
+    pub tuner: u8,
+    pub length: u16,
+}
+
+impl Timer {
+    pub fn add(self) -> Call {
+        Call::Add(self.cni, self.pil, self.year, self.tuner, self.length)
+    }
 }
 
 /// Answers are the paper's: 0 or the number of the refusal, or one of them in place of a value.
@@ -21,7 +39,7 @@ pub trait Machine {
     /// The number of seconds walked.
     fn wait(&mut self, time: u32) -> Result<u32, u8>;
     /// The slot.
-    fn add(&mut self, cni: u16, pil: u32, year: u8) -> Result<u8, u8>;
+    fn add(&mut self, cni: u16, pil: u32, year: u8, tuner: u8, length: u16) -> Result<u8, u8>;
     fn cancel(&mut self, slot: u8) -> u8;
     fn ask(&self, slot: u8) -> Result<State, u8>;
     fn live(&self) -> u8;
@@ -31,7 +49,8 @@ pub trait Machine {
 pub enum Call {
     Packet(u32, u8, Vec<u8>),
     Wait(u32),
-    Add(u16, u32, u8),
+    /// CNI, PIL, year, home tuner and length.
+    Add(u16, u32, u8, u8, u16),
     Cancel(u8),
     Ask(u8),
 }
@@ -44,7 +63,9 @@ pub fn play<M: Machine>(desk: &mut M, calls: &[Call]) -> String {
         let answer = match call {
             Call::Packet(time, tuner, bytes) => format!("packet {}", desk.packet(*time, *tuner, bytes)),
             Call::Wait(time) => format!("wait {}", value(desk.wait(*time))),
-            Call::Add(cni, pil, year) => format!("add {}", value(desk.add(*cni, *pil, *year).map(u32::from))),
+            &Call::Add(cni, pil, year, tuner, length) => {
+                format!("add {}", value(desk.add(cni, pil, year, tuner, length).map(u32::from)))
+            }
             Call::Cancel(slot) => format!("cancel {}", desk.cancel(*slot)),
             Call::Ask(slot) => format!("ask {:?}", desk.ask(*slot)),
         };
@@ -56,6 +77,7 @@ pub fn play<M: Machine>(desk: &mut M, calls: &[Call]) -> String {
                 Ok(State::Recording(place)) => write!(out, " r{place}").unwrap(),
                 Ok(State::RunningOn(place)) => write!(out, " o{place}").unwrap(),
                 Ok(State::Ended) => out.push_str(" e"),
+                Ok(State::ByTheClock) => out.push_str(" c"),
                 Err(15) => out.push_str(" -"),
                 Err(n) => write!(out, " !{n}").unwrap(),
             }
@@ -95,20 +117,26 @@ fn in_scene(seed: u64, scene: &mut Scene) -> Vec<Call> {
     let mut random = Random::new(seed ^ 0xCA11_5EED);
     let r = &mut random;
     let mut calls = Vec::new();
-    for (cni, pil, year) in scene.timers(r) {
+    for timer in scene.timers(r) {
         if !r.once_in(4) {
-            calls.push(Call::Add(cni, pil, year));
+            calls.push(timer.add());
         }
     }
     if r.once_in(2) {
         calls.push(Call::Wait(scene.now()));
     }
     let length = scene.length(r);
-    let stretch = r.below(2 * length + 2);
+    let (stretch, failing) = (r.below(2 * length + 2), r.below(2 * length + 2));
     for n in 0..length {
         if n == stretch {
-            if let Some((stretch, until)) = scene.stretch(r).map(Stretch::made) {
-                calls.extend(stretch);
+            if let Some((made, until)) = scene.stretch(r).map(Stretch::made) {
+                calls.extend(made);
+                scene.pass(until);
+            }
+        }
+        if n == failing {
+            if let Some((made, until)) = scene.failing(r).map(Failing::made) {
+                calls.extend(made);
                 scene.pass(until);
             }
         }
@@ -134,13 +162,14 @@ fn one_more(r: &mut Random, scene: &mut Scene, calls: &mut Vec<Call>) {
         2 => calls.push(Call::Wait(scene.refused_time(r))),
         3 | 4 => {
             let timers = scene.timers(r);
-            let (cni, pil, year) = timers[r.below(timers.len() as u64) as usize];
-            calls.push(Call::Add(cni, pil, year));
+            calls.push(timers[r.below(timers.len() as u64) as usize].add());
         }
         5 => {
-            // the year after: what fills a slot whose window has ended
-            let (cni, pil, year) = scene.programme(r);
-            calls.push(Call::Add(cni, pil, year.wrapping_add(1)));
+            // the year after: what fills a slot whose window has ended; or the year before, whose window has
+            let timer = scene.programme(r);
+            let year = timer.year.wrapping_add(if r.once_in(3) { 255 } else { 1 });
+            let timer = Timer { year, ..timer };
+            calls.push(if r.once_in(3) { out_of_range(r, timer) } else { timer }.add());
         }
         6 => calls.push(Call::Cancel(if r.once_in(3) { r.byte() % 20 } else { r.byte() % 3 })),
         7 => calls.push(Call::Ask(r.byte() % 20)),

@@ -1,10 +1,11 @@
 //! The desk as the paper words it: every second is walked, or those that `Pace` says, and at every moment every timer's copy is worked
-//! out anew from the labels that stand. Nothing is kept that could be worked out, but for the window of a timer, whether anything
-//! stands, and, for faults and for counting, what a copy has been.
+//! out anew from the labels that stand. Nothing is kept that could be worked out, but for the window and the announced second of a timer,
+//! whether anything stands, and, for faults and for counting, what a copy has been.
+mod clock;
 mod minute;
 
 use crate::calendar::END;
-use crate::calls::{Machine, State};
+use crate::calls::{Machine, State, Timer};
 use crate::faults::{self, Fault};
 use crate::paper::{self, Label};
 use minute::Past;
@@ -12,6 +13,7 @@ use minute::Past;
 const STANDS: u32 = 5;
 const RUNS_ON: u32 = 30;
 
+const TIMER_CONTROL: u8 = 1;
 const RIT: u8 = 2;
 const INTERRUPTION: u8 = 3;
 const CONTINUATION: u8 = 4;
@@ -27,9 +29,10 @@ pub enum Pace {
     Every,
     /// Each second up to a call that is not far ahead. Up to another, those until the desk is quiet.
     Near,
-    /// Once a moment has found no label standing and nothing live, every timer waits or has ended: one that was prepared has
-    /// lost its match, and its second with it. No later second can change that before a call does: no label can match, and
-    /// nothing is there that could leave or start. So the clock alone is put forward.
+    /// Once a moment has found no label standing and nothing recording or running on, every timer waits, is by the clock or has
+    /// ended: one that was prepared has lost its match, and its second with it. Before a call no later second has more than the clock to
+    /// go by: no label can match, nothing is there that could leave or start, and every home tuner is silent. So the clock is put
+    /// forward, and the moment at its new second says whom it records there.
     Quiet,
 }
 
@@ -46,6 +49,7 @@ enum Copy {
     Prepared { since: u32 },
     Recording { place: usize, mi: u8 },
     RunningOn { place: usize, since: u32 },
+    ByTheClock,
 }
 
 #[derive(Clone, Copy)]
@@ -53,8 +57,15 @@ struct Held {
     cni: u16,
     pil: u32,
     year: u8,
+    /// The home tuner.
+    tuner: u8,
+    /// In minutes.
+    length: u16,
+    announced: u32,
     opens: u32,
     closes: u32,
+    /// For a fault alone.
+    added: u32,
     copy: Copy,
     past: Past,
 }
@@ -70,6 +81,8 @@ pub struct Desk {
     skipped: u64,
     /// How many recordings began after a minute.
     starts: u64,
+    /// How often a moment found a copy by the clock that was something else before.
+    clocked: u64,
     fault: Option<Fault>,
     obeyed: u32,
     /// The present moment is a second that passes, no call.
@@ -92,6 +105,7 @@ impl Desk {
             pace,
             skipped: 0,
             starts: 0,
+            clocked: 0,
             fault,
             obeyed: 0,
             walking: false,
@@ -113,6 +127,11 @@ impl Desk {
         self.starts
     }
 
+    /// How often a copy was found to be by the clock that had been something else.
+    pub fn clocked(&self) -> u64 {
+        self.clocked
+    }
+
     fn has(&self, fault: Fault) -> bool {
         self.fault == Some(fault)
     }
@@ -131,7 +150,7 @@ impl Desk {
     }
 
     fn ended(&self, held: &Held) -> bool {
-        self.clock >= held.closes
+        self.clock >= held.closes || self.has(Fault::LengthEndsTimer) && self.clock >= held.announced + 60 * held.length as u32
     }
 
     /// The label at a place, if it stands and matches.
@@ -146,7 +165,13 @@ impl Desk {
             };
             let pil = label.pil == held.pil
                 || self.has(Fault::NspvMatchesAll) && paper::service(label.pil) == NO_SPECIFIC_VALUE;
-            cni && pil && opened && not_closed && !(self.has(Fault::PtyDecides) && label.pty != 0)
+            let seen = match self.fault {
+                Some(Fault::HomeTunerOnly) => place / 4 == held.tuner as usize,
+                Some(Fault::ControlHidesLabels) => !self.timer_control(held),
+                Some(Fault::PtyDecides) => label.pty == 0,
+                _ => true,
+            };
+            cni && pil && opened && not_closed && seen
         })
     }
 
@@ -174,10 +199,21 @@ impl Desk {
         (0..16).find(|&place| self.matching(place, held).is_some())
     }
 
+    /// One that is neither recording nor running on. By the clock comes after a match with PRF 0, and before prepared.
     fn not_live(&self, held: &Held) -> Copy {
-        self.start(held).unwrap_or_else(|| match self.lowest(held) {
-            Some(lowest) => self.prepared(held, lowest),
-            None => self.unmatched(held),
+        if self.clock_first(held) {
+            return Copy::ByTheClock;
+        }
+        self.start(held).unwrap_or_else(|| {
+            let otherwise = match self.lowest(held) {
+                Some(lowest) => self.prepared(held, lowest),
+                None => self.unmatched(held),
+            };
+            if self.by_the_clock(held) && !self.before_the_clock(otherwise) {
+                Copy::ByTheClock
+            } else {
+                otherwise
+            }
         })
     }
 
@@ -185,7 +221,7 @@ impl Desk {
         if self.has(Fault::LeavesToWaiting) {
             Copy::Waiting
         } else {
-            self.not_live(held)
+            self.without_gap(held, self.not_live(held))
         }
     }
 
@@ -193,7 +229,7 @@ impl Desk {
     fn next(&self, held: &Held) -> Copy {
         if self.ended(held) && !self.passes_close(held) {
             return match held.copy {
-                _ if !self.has(Fault::CloseRunsOn) => Copy::Waiting,
+                _ if !self.has(Fault::CloseRunsOn) => self.past_close(held),
                 Copy::Recording { place, mi: 0 } => Copy::RunningOn { place, since: self.clock },
                 Copy::RunningOn { since, .. } if self.clock - since < RUNS_ON => held.copy,
                 _ => Copy::Waiting,
@@ -205,7 +241,7 @@ impl Desk {
                 stays.unwrap_or_else(|| self.loses(held, place, mi))
             }
             Copy::RunningOn { since, .. } => self.runs_on(held, since),
-            Copy::Waiting | Copy::Prepared { .. } => self.not_live(held),
+            Copy::Waiting | Copy::Prepared { .. } | Copy::ByTheClock => self.not_live(held),
         }
     }
 
@@ -230,6 +266,7 @@ impl Desk {
             Some(Fault::RitEndsAtOnce) => mi == 1 || self.service_at(place) == Some(RIT),
             Some(Fault::InterruptionEndsAtOnce) => mi == 1 || self.service_at(place) == Some(INTERRUPTION),
             Some(Fault::PreparedAtOnce) => mi == 1 || matches!(self.not_live(held), Copy::Prepared { .. }),
+            Some(Fault::RunOnSkipped) => mi == 1 || self.by_the_clock(held),
             _ => mi == 1,
         };
         if at_once {
@@ -268,12 +305,17 @@ impl Desk {
         self.silent = self.nothing_stands();
         for slot in 0..16 {
             if let Some(held) = &self.slots[slot] {
+                // most seconds are such: no label stands, and the clock has nothing to say of the timer
+                if self.silent && held.copy == Copy::Waiting && !self.in_length(held) {
+                    continue;
+                }
                 let copy = self.next(held);
-                if (copy, held.copy) == (Copy::Waiting, Copy::Waiting) {
+                if copy == held.copy && matches!(copy, Copy::Waiting | Copy::ByTheClock) {
                     continue;
                 }
                 let past = self.past(held, copy);
                 self.starts += (past.started && !held.past.started) as u64;
+                self.clocked += (copy == Copy::ByTheClock && held.copy != copy) as u64;
                 let held = self.slots[slot].as_mut().unwrap();
                 (held.copy, held.past) = (copy, past);
             }
@@ -289,6 +331,7 @@ impl Desk {
                 }
                 Copy::Recording { .. } if self.has(Fault::StartedIsNotLive) && held.past.started => 0,
                 Copy::Recording { .. } | Copy::RunningOn { .. } => 1,
+                Copy::ByTheClock => !self.has(Fault::ClockIsNotLive) as u8,
                 Copy::Prepared { .. } => self.has(Fault::PreparedIsLive) as u8,
                 Copy::Waiting => 0,
             };
@@ -300,12 +343,17 @@ impl Desk {
         !self.places.iter().flatten().any(|heard| self.stands(heard))
     }
 
-    fn nothing_is_live(&self) -> bool {
-        !self.slots.iter().flatten().any(|held| matches!(held.copy, Copy::Recording { .. } | Copy::RunningOn { .. }))
+    /// Nothing is recording or running on. Clock copies do not keep a wait walking.
+    fn nothing_records(&self) -> bool {
+        !self.slots.iter().flatten().any(|held| match held.copy {
+            Copy::Recording { .. } | Copy::RunningOn { .. } => true,
+            Copy::ByTheClock => self.has(Fault::WalkedClock),
+            Copy::Waiting | Copy::Prepared { .. } => false,
+        })
     }
 
     fn quiet(&self) -> bool {
-        (self.nothing_stands() || self.has(Fault::WalkedLive)) && self.nothing_is_live()
+        (self.nothing_stands() || self.has(Fault::WalkedLive)) && self.nothing_records()
     }
 
     /// Passes every second up to t, t too, and gives the least number of them after which the desk is quiet, or all of them.
@@ -331,9 +379,8 @@ impl Desk {
             if walked.is_none() && self.quiet() {
                 walked = Some(second);
             }
-            if skips && self.nothing_stands() && self.nothing_is_live() {
-                self.skipped += (t - self.clock) as u64;
-                self.clock = t;
+            if skips && self.clock < t && self.nothing_stands() && self.nothing_records() {
+                self.skip_to(t);
                 break;
             }
         }
@@ -341,6 +388,17 @@ impl Desk {
             Some(Fault::WalkedWhole) => whole,
             Some(Fault::WalkedOneMore) => (walked.unwrap_or(whole) + 1).min(whole),
             _ => walked.unwrap_or(whole),
+        }
+    }
+
+    /// Puts the clock of a quiet desk forward. Second t is a moment still.
+    fn skip_to(&mut self, t: u32) {
+        self.skipped += (t - self.clock - 1) as u64;
+        self.clock = t;
+        if !self.has(Fault::ClockKeptOverWait) {
+            self.walking = true;
+            self.moment();
+            self.walking = false;
         }
     }
 
@@ -408,8 +466,12 @@ impl Desk {
         self.places[place] = Some(Heard { label, stamp });
     }
 
-    fn same(&self, held: &Held, cni: u16, pil: u32, year: u8) -> bool {
-        (held.cni, held.pil) == (cni, pil) && (held.year == year || self.has(Fault::TwinBySight))
+    /// 'Two timers are the same if CNI, PIL and year agree, whatever home tuner and length.'
+    fn same(&self, held: &Held, timer: &Timer) -> bool {
+        let home = held.tuner == timer.tuner || !self.has(Fault::TwinAsksTuner);
+        let length = held.length == timer.length || !self.has(Fault::TwinAsksLength);
+        let year = held.year == timer.year || self.has(Fault::TwinBySight);
+        (held.cni, held.pil) == (timer.cni, timer.pil) && year && home && length
     }
 
     /// The lowest slot that is free or whose window has ended.
@@ -423,6 +485,30 @@ impl Desk {
             Some(Fault::FifteenSlots) => (0..15).find(|slot| free(slot) || ended(slot)),
             Some(Fault::SeventeenTimers) => (0..16).find(|slot| free(slot) || ended(slot)).or(Some(0)),
             _ => (0..16).find(|slot| free(slot) || ended(slot)),
+        }
+    }
+
+    /// The slot that a timer would have whose window closes then, or the first that applies of 17, 12, 13 and 14.
+    fn slot_for(&self, timer: &Timer, closes: u32) -> Result<usize, u8> {
+        let twin = self.slots.iter().flatten().find(|held| self.same(held, timer));
+        let ended = if self.has(Fault::EndedLate) { self.clock > closes } else { self.clock >= closes };
+        let room = self.room();
+        let mut refusals = vec![
+            (17, self.out_of_range(timer.tuner, timer.length)),
+            (12, ended && !self.has(Fault::EndedTaken)),
+            (13, twin.map_or(false, |held| !self.ended(held)) && !self.has(Fault::TwinTaken)),
+            (14, room.is_none()),
+        ];
+        match self.fault {
+            Some(Fault::EndedBeforeRange) => refusals.swap(0, 1),
+            Some(Fault::RangeLast) => refusals.rotate_left(1),
+            Some(Fault::FullBeforeTwin) => refusals.swap(2, 3),
+            Some(Fault::TwinBeforeEnded) => refusals.insert(1, (13, twin.is_some())),
+            _ => {}
+        }
+        match refusals.iter().find(|(_, applies)| *applies) {
+            Some((number, _)) => Err(*number),
+            None => room.ok_or(14),
         }
     }
 
@@ -489,28 +575,19 @@ impl Machine for Desk {
         }
     }
 
-    fn add(&mut self, cni: u16, pil: u32, year: u8) -> Result<u8, u8> {
+    fn add(&mut self, cni: u16, pil: u32, year: u8, tuner: u8, length: u16) -> Result<u8, u8> {
+        let timer = Timer { cni, pil, year, tuner, length };
+        if self.has(Fault::RangeBeforeReal) && self.out_of_range(tuner, length) {
+            return Err(17);
+        }
         let (opens, closes) = faults::window(pil, year, self.fault)?;
-        let twin = self.slots.iter().flatten().find(|held| self.same(held, cni, pil, year));
-        if twin.is_some() && self.has(Fault::TwinBeforeEnded) {
-            return Err(13);
-        }
-        let ended = if self.has(Fault::EndedLate) { self.clock > closes } else { self.clock >= closes };
-        if ended && !self.has(Fault::EndedTaken) {
-            return Err(12);
-        }
-        let room = self.room();
-        if room.is_none() && self.has(Fault::FullBeforeTwin) {
-            return Err(14);
-        }
-        if twin.map_or(false, |held| !self.ended(held)) && !self.has(Fault::TwinTaken) {
-            return Err(13);
-        }
-        let slot = room.ok_or(14)?;
-        let kept = self.cancelled.filter(|held| self.has(Fault::CancelKeepsSecond) && self.same(held, cni, pil, year));
+        let announced = faults::announced(pil, year, self.fault)?;
+        let slot = self.slot_for(&timer, closes)?;
+        let kept = self.cancelled.filter(|held| self.has(Fault::CancelKeepsSecond) && self.same(held, &timer));
         let copy = kept.map_or(Copy::Waiting, |held| held.copy);
         self.break_by_call();
-        self.slots[slot] = Some(Held { cni, pil, year, opens, closes, copy, past: Past::default() });
+        let (added, past) = (self.clock, Past::default());
+        self.slots[slot] = Some(Held { cni, pil, year, tuner, length, announced, opens, closes, added, copy, past });
         if !self.has(Fault::AddIsNoMoment) {
             self.moment();
         }
@@ -550,6 +627,9 @@ impl Machine for Desk {
             Copy::Recording { place, .. } => State::Recording(place as u8),
             Copy::RunningOn { .. } if self.has(Fault::RunOnAtLowest) => State::RunningOn(0),
             Copy::RunningOn { place, .. } => State::RunningOn(place as u8),
+            Copy::ByTheClock if self.has(Fault::ClockSaysWaiting) => State::Waiting,
+            Copy::ByTheClock if self.has(Fault::ClockSaysRecording) => State::Recording(4 * held.tuner),
+            Copy::ByTheClock => State::ByTheClock,
         })
     }
 
@@ -562,16 +642,17 @@ impl Machine for Desk {
 mod tests {
     use super::*;
 
-    const CNI: u16 = 0x1D65;
-    const PIL: u32 = 0x7BCDE;
+    pub(super) const CNI: u16 = 0x1D65;
+    pub(super) const PIL: u32 = 0x7BCDE;
+    /// In the window, and before the announced second.
     const T: u32 = 80_000_000 + 30_000;
 
-    fn code(hour: u32) -> u32 {
+    pub(super) fn code(hour: u32) -> u32 {
         15 << 11 | hour << 6 | 63
     }
 
     /// Label at a place: CNI as above, designation 2, all else as given.
-    fn say(desk: &mut Desk, time: u32, tuner: u8, lci: u8, pil: u32, mi: u8, prf: u8) {
+    pub(super) fn say(desk: &mut Desk, time: u32, tuner: u8, lci: u8, pil: u32, mi: u8, prf: u8) {
         let mut p = [0; 42];
         assert_eq!(paper::write(&Label { designation: 2, lci, mi, prf, pil, cni: CNI, ..Label::default() }, &mut p), 0);
         assert_eq!(desk.packet(time, tuner, &p), 0);
@@ -580,7 +661,7 @@ mod tests {
     /// A desk with the timer of the paper, in its window.
     fn desk() -> Desk {
         let mut desk = Desk::with(Pace::Quiet, None);
-        assert_eq!(desk.add(CNI, PIL, 2), Ok(0));
+        assert_eq!(desk.add(CNI, PIL, 2, 0, 90), Ok(0));
         assert!(desk.wait(T - 10).is_ok());
         desk
     }
@@ -593,25 +674,6 @@ mod tests {
         assert_eq!(d.ask(0), Ok(State::Recording(0)));
         d.wait(T + 6).unwrap();
         assert_eq!(d.ask(0), Ok(State::Waiting));
-    }
-
-    #[test]
-    fn example_9_rit_over_a_recording() {
-        let mut d = desk();
-        say(&mut d, T - 3, 0, 0, PIL, 0, 0);
-        say(&mut d, T, 0, 0, code(30), 0, 0);
-        assert_eq!(d.ask(0), Ok(State::RunningOn(0)));
-        d.wait(T + 29).unwrap();
-        assert_eq!(d.live(), 1);
-        d.wait(T + 30).unwrap();
-        assert_eq!(d.live(), 0);
-
-        let mut d = desk();
-        say(&mut d, T - 3, 0, 0, PIL, 1, 0);
-        assert_eq!(d.live(), 1);
-        // the MI of the service code itself does not count
-        say(&mut d, T, 0, 0, code(30), 0, 0);
-        assert_eq!(d.live(), 0);
     }
 
     #[test]
@@ -629,25 +691,6 @@ mod tests {
         say(&mut d, T + 6, 0, 0, code(28), 0, 0);
         assert_eq!(d.ask(0), Ok(State::Waiting));
         assert_eq!(d.wait(T + 100), Ok(0));
-    }
-
-    #[test]
-    fn example_11_prepared_is_not_live() {
-        let mut d = desk();
-        say(&mut d, T, 2, 1, PIL, 0, 1);
-        assert_eq!((d.ask(0), d.live()), (Ok(State::Prepared), 0));
-        say(&mut d, T, 2, 1, PIL, 0, 0);
-        assert_eq!((d.ask(0), d.live()), (Ok(State::Recording(9)), 1));
-    }
-
-    #[test]
-    fn example_12_the_second_tuner_takes_over_from_the_run_on() {
-        let mut d = desk();
-        say(&mut d, T, 0, 0, PIL, 0, 0);
-        d.wait(T + 9).unwrap();
-        assert_eq!(d.ask(0), Ok(State::RunningOn(0)));
-        say(&mut d, T + 10, 1, 0, PIL, 0, 0);
-        assert_eq!((d.ask(0), d.live()), (Ok(State::Recording(4)), 1));
     }
 
     #[test]
@@ -689,7 +732,7 @@ mod tests {
         }
     }
 
-    fn asked(d: &mut Desk, second: u32) -> State {
+    pub(super) fn asked(d: &mut Desk, second: u32) -> State {
         d.wait(second).unwrap();
         d.ask(0).unwrap()
     }
@@ -802,7 +845,7 @@ mod tests {
     fn a_timer_added_again_counts_anew() {
         let mut d = desk();
         keep(&mut d, T, T + 50, 0, 0);
-        assert_eq!((d.cancel(0), d.add(CNI, PIL, 2)), (0, Ok(0)));
+        assert_eq!((d.cancel(0), d.add(CNI, PIL, 2, 0, 90)), (0, Ok(0)));
         keep(&mut d, T + 51, T + 110, 0, 0);
         assert_eq!(d.ask(0), Ok(State::Prepared));
         assert_eq!(asked(&mut d, T + 111), State::Recording(0));
@@ -816,8 +859,8 @@ mod tests {
         assert_eq!(d.live(), 1);
         assert_eq!(d.wait(close), Ok(1));
         assert_eq!((d.ask(0), d.live()), (Ok(State::Ended), 0));
-        assert_eq!(d.add(CNI, PIL, 2), Err(12));
-        assert_eq!(d.add(CNI, PIL, 3), Ok(0));
+        assert_eq!(d.add(CNI, PIL, 2, 0, 90), Err(12));
+        assert_eq!(d.add(CNI, PIL, 3, 0, 90), Ok(0));
         assert_eq!(d.ask(0), Ok(State::Waiting));
         assert_eq!((d.cancel(0), d.cancel(0), d.ask(0), d.ask(16)), (0, 15, Err(15), Err(15)));
     }
@@ -826,10 +869,10 @@ mod tests {
     fn a_timer_added_records_at_once() {
         let mut d = Desk::new();
         say(&mut d, T, 3, 3, PIL, 0, 0);
-        assert_eq!(d.add(CNI, PIL, 2), Ok(0));
+        assert_eq!(d.add(CNI, PIL, 2, 0, 90), Ok(0));
         assert_eq!(d.ask(0), Ok(State::Recording(15)));
-        assert_eq!(d.add(CNI, PIL, 2), Err(13));
-        assert_eq!(d.add(CNI, PIL | 1 << 20, 2), Err(11));
-        assert_eq!(d.add(CNI, PIL, 100), Err(11));
+        assert_eq!(d.add(CNI, PIL, 2, 0, 90), Err(13));
+        assert_eq!(d.add(CNI, PIL | 1 << 20, 2, 0, 90), Err(11));
+        assert_eq!(d.add(CNI, PIL, 100, 0, 90), Err(11));
     }
 }

@@ -74,6 +74,43 @@ faults! {
     RecordingIsNoBreak: "a recording between is no break",
     NothingIsABreak: "the minute counts from the first second at which the timer was prepared",
     CancelKeepsSecond: "a timer cancelled and added again keeps its second",
+    ClockStartsEarly: "the clock records from the second before the announced one",
+    ClockStartsLate: "the clock records from the second after the announced one",
+    ClockLastsLonger: "the clock records for a second more than the length",
+    ClockLastsLess: "the clock records for a second less than the length",
+    LengthFromAdding: "the length of a timer added after its announced second counts from its adding",
+    LengthFromStart: "the length counts from the second from which the clock records",
+    LengthEndsTimer: "a timer whose length has passed is ended",
+    CloseSparesClock: "a window's close does not end what the clock records",
+    LengthPastClose: "a length that reaches past the window's close is not cut there",
+    RecordedIsDone: "what has recorded is not recorded by the clock",
+    SilenceOfAll: "the labels fail where no label stands at any tuner",
+    SilenceOfFirstPlace: "the labels fail where none stands at the home tuner's LCI 0",
+    SilenceOfTunerZero: "the home tuner is not asked: the labels fail where tuner 0 has none",
+    LapsedIsHeard: "a home tuner that has heard a label is not silent again",
+    CodesAreSilence: "RI/T and interruption are taken for silence",
+    NspvIsSilence: "no specific value is taken for silence",
+    OthersAreSilence: "labels of other programmes are taken for silence",
+    ControlIgnored: "timer-control is a label like any other",
+    ControlAnywhere: "timer-control on another tuner counts",
+    ControlAlone: "timer-control counts only where no other label stands on the home tuner",
+    ControlAsksCni: "timer-control counts only with the timer's CNI",
+    ControlHidesLabels: "while timer-control stands on the home tuner no label matches",
+    ClockGoesOn: "what the clock has begun it records, though labels are heard again",
+    ClockBeforeMatch: "by the clock comes before a match with PRF 0",
+    ClockNotTakenOver: "a match with PRF 0 does not take over what the clock records",
+    PreparedBeforeClock: "prepared comes before by the clock",
+    MinuteBeforeClock: "the start after a minute comes before by the clock",
+    ClockKeepsSecond: "a timer prepared again after the clock recorded it counts from the old second",
+    RunOnSkipped: "where the labels fail a recording of MI 0 is by the clock at once",
+    GapAfterRecording: "a recording that ends is by the clock a moment later",
+    GapAfterRunOn: "a run-on that ends is by the clock a moment later",
+    HomeTunerOnly: "a label matches at the home tuner only",
+    ClockIsNotLive: "what the clock records is not live",
+    ClockSaysWaiting: "a timer by the clock is said to wait",
+    ClockSaysRecording: "a timer by the clock is said to be recording at its home tuner",
+    ClockKeptOverWait: "what a wait does not walk leaves the copies by the clock as they were",
+    WalkedClock: "a wait walks on while the clock records",
     HighestPlace: "the highest place comes first",
     LciBeforeTuner: "places are ordered by LCI, then tuner",
     SecondCopy: "a second match is a second copy",
@@ -134,6 +171,14 @@ faults! {
     PastEndTaken: "a time past the clock's end is taken",
     TwinTaken: "the same timer is held twice",
     TwinBySight: "two timers are the same without looking at the year",
+    TwinAsksTuner: "two timers of other home tuners are not the same",
+    TwinAsksLength: "two timers of other lengths are not the same",
+    RangeBeforeReal: "17 before 11",
+    EndedBeforeRange: "12 before 17",
+    RangeLast: "17 after 14",
+    HomeTunerFourTaken: "home tuner 4 is taken for tuner 0",
+    LengthNoughtTaken: "a length of 0 is taken",
+    LengthPastADayTaken: "a length of 1,441 is taken",
     FullBeforeTwin: "14 before 13",
     TwinBeforeEnded: "13 before 12, ended twins too",
     EndedTaken: "a timer whose window has ended is taken",
@@ -151,7 +196,7 @@ faults! {
     EndedWaits: "an ended timer is said to wait",
     RunOnAtLowest: "a run-on is said to be at place 0",
     WalkedWhole: "a wait reports its whole length",
-    WalkedLive: "a wait reports the seconds until nothing is live",
+    WalkedLive: "a wait reports the seconds until nothing is recording or running on",
     WalkedOneMore: "a wait reports one second more",
     WaitPresentRefused: "a wait to the present is refused",
     LeftOverIsWhole: "left-over bytes end with Z",
@@ -159,6 +204,7 @@ faults! {
     CutItemPrinted: "a cut item is printed",
     CutStopsBefore: "short input prints nothing for the last whole packet",
     LowByteFirst: "times with the low byte first",
+    LengthLowByteFirst: "lengths with the low byte first",
     IndexForSlot: "a timer's number is printed for its slot",
     RefusedTimerStops: "a refused timer ends the sheet",
     LiveBefore: "the count is that before the packet",
@@ -176,8 +222,14 @@ impl Fault {
             StartedSaysPrepared
                 | CallBreaks
                 | CancelKeepsSecond
-                | ContinuationAsksProgramme
                 | AddIsNoMoment
+                | LengthFromAdding
+                | GapAfterRunOn
+                | ClockSaysWaiting
+                | ClockSaysRecording
+                | ClockKeptOverWait
+                | WalkedClock
+                | EndedBeforeRange
                 | TwinBeforeEnded
                 | EndedTaken
                 | EndedLate
@@ -205,6 +257,7 @@ impl Fault {
                 | CutItemPrinted
                 | CutStopsBefore
                 | LowByteFirst
+                | LengthLowByteFirst
                 | IndexForSlot
                 | RefusedTimerStops
                 | LiveBefore
@@ -246,6 +299,20 @@ pub fn window(pil: u32, year: u8, fault: Option<Fault>) -> Result<(u32, u32), u8
                 _ => (opens, closes),
             })
         }
+    }
+}
+
+/// The announced second, whose date is that of the window.
+pub fn announced(pil: u32, year: u8, fault: Option<Fault>) -> Result<u32, u8> {
+    use Fault::*;
+    match fault {
+        Some(NoLeapYear | EveryYearLeap | Year2000NotLeap | AprilOf31) => {
+            let (_, closes) = window(pil, year, fault)?;
+            Ok(closes - 28 * 3600 + 3600 * (pil >> 6 & 31) + 60 * (pil & 63))
+        }
+        Some(WidePilCut) => calendar::announced(pil & 0xF_FFFF, year),
+        Some(YearWraps) => calendar::announced(pil, if year == 100 { 0 } else { year }),
+        _ => calendar::announced(pil, year),
     }
 }
 

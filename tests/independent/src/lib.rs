@@ -5,6 +5,7 @@ pub mod calendar;
 pub mod calls;
 pub mod desk;
 pub mod examples;
+pub mod failing;
 pub mod faults;
 pub mod pages;
 pub mod paper;

@@ -2,18 +2,61 @@
 //! made of these. A scene keeps the clock that the desk will have, so that most packets are accepted and the others are refused
 //! on purpose.
 use crate::calendar::{self, END};
+use crate::calls::Timer;
+use crate::failing::Failing;
 use crate::paper::{self, good, Label};
 use crate::random::Random;
 use crate::stretch::Stretch;
 
-pub type Timer = (u16, u32, u8);
 pub type Packet = (u32, u8, Vec<u8>);
 
 struct Programme {
-    cni: u16,
-    pil: u32,
-    year: u8,
+    timer: Timer,
     window: (u32, u32),
+    /// The announced second, and that at which the length has passed.
+    length: (u32, u32),
+}
+
+impl Programme {
+    fn new(r: &mut Random, cni: u16, pil: u32, year: u8, home: u8) -> Result<Programme, u8> {
+        let (window, announced) = (calendar::window(pil, year)?, calendar::announced(pil, year)?);
+        let length = minutes(r, (window.1 - announced) / 60);
+        let timer = Timer { cni, pil, year, tuner: home, length };
+        Ok(Programme { timer, window, length: (announced, announced + 60 * length as u32) })
+    }
+
+    /// The last second by the clock is before this one.
+    fn ends(&self) -> u32 {
+        self.length.1.min(self.window.1)
+    }
+
+    /// Somewhere in its window, or shortly before.
+    fn second(&self, r: &mut Random) -> u32 {
+        let (opens, closes) = self.window;
+        match r.below(12) {
+            0 | 1 => opens.saturating_sub(r.below(40) as u32),
+            2 | 3 => closes - r.below(90) as u32,
+            4 => opens + r.below(4 * 3600) as u32,
+            5 => opens + r.below(4) as u32 * 3600 - r.below(1 + opens.min(30) as u64) as u32,
+            6 | 7 => self.length.0.saturating_sub(r.below(100) as u32),
+            8 => self.ends() - r.below(60) as u32,
+            _ => opens + r.below((closes - opens) as u64) as u32,
+        }
+    }
+}
+
+/// A length, often one that ends soon, or where the window closes after that many minutes.
+fn minutes(r: &mut Random, closes: u32) -> u16 {
+    let minutes = match r.below(12) {
+        0 | 1 | 2 => 1,
+        3 | 4 => 2 + r.below(4) as u32,
+        5 | 6 => closes,
+        7 => closes + one(r, &[1, 2, 60]),
+        8 => closes - 1,
+        9 => one(r, &[1_439, 1_440]),
+        _ => 1 + r.below(1_440) as u32,
+    };
+    minutes.clamp(1, 1_440) as u16
 }
 
 pub struct Scene {
@@ -78,6 +121,33 @@ fn hour(r: &mut Random) -> u32 {
     }
 }
 
+/// A timer of any date.
+fn filler(r: &mut Random) -> Timer {
+    let (year, month, day) = date(r);
+    let pil = calendar::pil(day, month, r.below(24) as u32, r.below(60) as u32);
+    Timer { cni: r.below(4) as u16, pil, year, tuner: r.below(4) as u8, length: minutes(r, 60) }
+}
+
+/// A timer with a home tuner that there is not, or with a length that is none.
+pub fn out_of_range(r: &mut Random, timer: Timer) -> Timer {
+    match r.below(6) {
+        0 | 1 => Timer { length: 0, ..timer },
+        2 => Timer { length: 1_441, ..timer },
+        3 => Timer { length: 1_441 + r.below(0x1_0000 - 1_441) as u16, ..timer },
+        4 => Timer { tuner: 4, ..timer },
+        _ => Timer { tuner: 4 + r.byte() % 252, ..timer },
+    }
+}
+
+/// The same timer with another home tuner, or with another length.
+fn otherwise(r: &mut Random, timer: Timer) -> Timer {
+    if r.once_in(2) {
+        Timer { tuner: timer.tuner ^ 1 + r.below(3) as u8, ..timer }
+    } else {
+        Timer { length: timer.length % 1_440 + 1, ..timer }
+    }
+}
+
 impl Scene {
     pub fn new(r: &mut Random) -> Scene {
         let date = date(r);
@@ -109,43 +179,43 @@ impl Scene {
 
     fn on(r: &mut Random, (year, month, day): (u8, u32, u32)) -> Scene {
         let cnis = [0x1D65, 0x1D66, 0x2D65, 0xFFFF];
+        let places: Vec<(u8, u8)> = (0..2 + r.below(4)).map(|_| (r.below(4) as u8, one(r, &[0, 0, 1, 2, 3]))).collect();
         let mut programmes: Vec<Programme> = Vec::new();
-        let mut push = |cni: u16, pil: u32, year: u8| {
-            if let Ok(window) = calendar::window(pil, year) {
-                programmes.push(Programme { cni, pil, year, window });
-            }
+        let mut push = |r: &mut Random, cni: u16, pil: u32, year: u8| {
+            // a tuner that is heard, or one that may be silent
+            let home = if r.once_in(2) { one(r, &places).0 } else { r.below(4) as u8 };
+            programmes.extend(Programme::new(r, cni, pil, year, home));
         };
         let first = calendar::pil(day, month, hour(r), r.below(60) as u32);
-        push(cnis[0], first, year);
+        push(r, cnis[0], first, year);
         for _ in 0..r.below(3) {
             match r.below(5) {
                 // the same label of another network or country
-                0 => push(cnis[1 + r.below(3) as usize], first, year),
+                0 => {
+                    let cni = cnis[1 + r.below(3) as usize];
+                    push(r, cni, first, year);
+                }
                 // another time of the same date
-                1 | 2 => push(one(r, &cnis), calendar::pil(day, month, hour(r), r.below(60) as u32), year),
+                1 | 2 => {
+                    let (cni, pil) = (one(r, &cnis), calendar::pil(day, month, hour(r), r.below(60) as u32));
+                    push(r, cni, pil, year);
+                }
                 // the day before or after: windows overlap, also across a month or a year
                 3 => {
                     let noon = calendar::day_number(year, month, day) * 86_400 + 43_200;
                     let other = noon + one(r, &[-86_400, 86_400]);
                     if (0..END as i64).contains(&other) {
                         let (y, m, d) = calendar::date_at(other as u32);
-                        push(one(r, &cnis), calendar::pil(d, m, hour(r), r.below(60) as u32), y);
+                        let (cni, pil) = (one(r, &cnis), calendar::pil(d, m, hour(r), r.below(60) as u32));
+                        push(r, cni, pil, y);
                     }
                 }
                 // the same date in another year
-                _ => push(cnis[0], first, year ^ 1),
+                _ => push(r, cnis[0], first, year ^ 1),
             }
         }
-        let places: Vec<(u8, u8)> = (0..2 + r.below(4)).map(|_| (r.below(4) as u8, one(r, &[0, 0, 1, 2, 3]))).collect();
-        let (opens, closes) = programmes[0].window;
-        let now = match r.below(8) {
-            0 | 1 => opens.saturating_sub(r.below(40) as u32),
-            2 | 3 => closes - r.below(90) as u32,
-            4 => opens + r.below(4 * 3600) as u32,
-            5 => opens + r.below(4) as u32 * 3600 - r.below(1 + opens.min(30) as u64) as u32,
-            _ => opens + r.below((closes - opens) as u64) as u32,
-        };
-        let marks = programmes.iter().flat_map(|p| [p.window.0, p.window.1]).collect();
+        let now = programmes[0].second(r);
+        let marks = programmes.iter().flat_map(|p| [p.window.0, p.window.1, p.length.0, p.length.1]).collect();
         Scene { programmes, places, now, marks, last: None, burst: Vec::new(), steady: false, repeats: r.below(10) }
     }
 
@@ -164,21 +234,20 @@ impl Scene {
 
     /// The programme that times are made around.
     pub fn first(&self) -> Timer {
-        let p = &self.programmes[0];
-        (p.cni, p.pil, p.year)
+        self.programmes[0].timer
     }
 
     pub fn programme(&self, r: &mut Random) -> Timer {
         if r.once_in(2) {
             return self.first();
         }
-        let p = &self.programmes[r.below(self.programmes.len() as u64) as usize];
-        (p.cni, p.pil, p.year)
+        self.programmes[r.below(self.programmes.len() as u64) as usize].timer
     }
+
 
     /// Timers to be added, among them some that are refused.
     pub fn timers(&self, r: &mut Random) -> Vec<Timer> {
-        let mut timers: Vec<Timer> = self.programmes.iter().map(|p| (p.cni, p.pil, p.year)).collect();
+        let mut timers: Vec<Timer> = self.programmes.iter().map(|p| p.timer).collect();
         if r.once_in(3) {
             let n = r.below(timers.len() as u64) as usize;
             timers.swap(0, n);
@@ -186,10 +255,6 @@ impl Scene {
         if r.once_in(4) {
             timers.truncate(1);
         }
-        let filler = |r: &mut Random| {
-            let (year, month, day) = date(r);
-            (r.below(4) as u16, calendar::pil(day, month, r.below(24) as u32, r.below(60) as u32), year)
-        };
         if r.once_in(10) {
             // more than the desk holds, the programmes first or last
             let many: Vec<Timer> = (0..13 + r.below(8)).map(|_| filler(r)).collect();
@@ -197,23 +262,38 @@ impl Scene {
             timers.splice(at..at, many);
         }
         for _ in 0..r.below(4) {
-            let (cni, pil, year) = self.programme(r);
             let at = r.below(timers.len() as u64 + 1) as usize;
-            let extra = match r.below(12) {
-                0 | 1 | 2 => one(r, &timers),
-                3 => (cni, pil, 100 + r.byte() % 156),
-                4 => (cni, pil, one(r, &[99, 100, 255])),
-                5 => (cni, pil | 1 << 20 + r.below(4), year),
-                6 => (cni, calendar::pil(29, 2, 4, 0), r.below(100) as u8),
-                7 => (cni, calendar::pil(one(r, &[0, 28, 29, 30, 31]), r.below(16) as u32, hour(r), 0), year),
-                8 => (cni, calendar::pil(1, 1, 20 + r.below(12) as u32, 55 + r.below(9) as u32), year),
-                9 => (cni, calendar::pil(0, 15, 28 + r.below(4) as u32, 63), year),
-                10 => (cni, pil, year ^ 1),
-                _ => filler(r),
-            };
+            let extra = self.extra(r, &timers);
             timers.insert(at, extra);
         }
         timers
+    }
+
+    /// A timer that is held, one that is refused, or one of another year.
+    fn extra(&self, r: &mut Random, held: &[Timer]) -> Timer {
+        let timer = self.programme(r);
+        let extra = match r.below(16) {
+            0 | 1 | 2 => one(r, held),
+            3 => Timer { year: 100 + r.byte() % 156, ..timer },
+            4 => Timer { year: one(r, &[99, 100, 255]), ..timer },
+            5 => Timer { pil: timer.pil | 1 << 20 + r.below(4), ..timer },
+            6 => Timer { pil: calendar::pil(29, 2, 4, 0), year: r.below(100) as u8, ..timer },
+            7 => Timer { pil: calendar::pil(one(r, &[0, 28, 29, 30, 31]), r.below(16) as u32, hour(r), 0), ..timer },
+            8 => Timer { pil: calendar::pil(1, 1, 20 + r.below(12) as u32, 55 + r.below(9) as u32), ..timer },
+            9 => Timer { pil: calendar::pil(0, 15, 28 + r.below(4) as u32, 63), ..timer },
+            10 => Timer { year: timer.year ^ 1, ..timer },
+            11 | 12 => return out_of_range(r, timer),
+            13 | 14 => {
+                let held = one(r, held);
+                otherwise(r, held)
+            }
+            _ => filler(r),
+        };
+        if r.once_in(8) {
+            out_of_range(r, extra)
+        } else {
+            extra
+        }
     }
 
     /// A time that the desk accepts.
@@ -287,11 +367,11 @@ impl Scene {
             }
         }
         let (mut tuner, mut lci) = one(r, &self.places);
-        let (mut cni, programme, _) = self.programme(r);
+        let Timer { mut cni, pil: programme, tuner: home, .. } = self.programme(r);
         let pil = match r.below(32) {
             0 | 1 | 2 => code(30),
             3 => code(29),
-            4 => code(31),
+            4 | 12 => code(31),
             5 | 6 | 7 | 8 => code(28),
             9 => 0xF_FFFF,
             // no date, or a service code but for one bit
@@ -306,6 +386,8 @@ impl Scene {
             // where a label may still stand
             tuner = at;
             lci = label.lci;
+        } else if pil == code(31) && r.once_in(2) {
+            tuner = home;
         }
         let label = Label {
             designation: 2 + r.once_in(3) as u8,
@@ -337,8 +419,19 @@ impl Scene {
             return None;
         }
         let (beside, programme) = (r.once_in(3), self.programme(r));
+        let (announced, ends) = (self.programmes[0].length.0, self.programmes[0].ends());
+        let clocked = announced < from.saturating_add(120) && from < ends && !r.once_in(4);
         let stretch = Stretch::new(r, self.first(), &self.places, (from, from.max(opens)));
+        let stretch = if clocked { stretch.with_home() } else { stretch };
         Some(if beside && programme != self.first() { stretch.beside(programme) } else { stretch })
+    }
+
+    /// A stretch in which the labels of a programme's home tuner fail, if that programme is still to begin, or to end, by the clock.
+    pub fn failing<'a>(&'a self, r: &'a mut Random) -> Option<Failing<'a>> {
+        const SOON: u32 = 40_000;
+        let of = &self.programmes[if r.once_in(2) { 0 } else { r.below(self.programmes.len() as u64) as usize }];
+        let soon = of.length.0 <= self.now.saturating_add(SOON) && self.now < of.ends();
+        soon.then(|| Failing::new(r, of.timer, &self.places, self.now, (of.length.0, of.ends())))
     }
 
     /// The next packet, which the desk accepts three times in four or more.

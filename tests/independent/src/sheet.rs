@@ -4,6 +4,9 @@ use crate::desk::{Desk, Pace};
 use crate::faults::Fault;
 use std::fmt::Write;
 
+/// The bytes of a timer.
+pub const TIMER: usize = 9;
+
 /// What is left of the input. A piece that would be short takes nothing.
 pub(crate) struct Input<'a>(pub(crate) &'a [u8]);
 
@@ -61,7 +64,7 @@ pub fn play_on<M: Machine>(desk: &mut M, input: &[u8], fault: Option<Fault>) -> 
 fn sections<M: Machine>(desk: &mut M, input: &mut Input, out: &mut String, fault: Option<Fault>) -> Option<()> {
     let cut_is_printed = fault == Some(Fault::CutItemPrinted);
     for index in 0..number(input.take(1)?) {
-        let item = match input.take(6) {
+        let item = match input.take(TIMER) {
             Some(item) => item,
             None => {
                 if cut_is_printed {
@@ -70,7 +73,11 @@ fn sections<M: Machine>(desk: &mut M, input: &mut Input, out: &mut String, fault
                 return None;
             }
         };
-        match desk.add(number(&item[0..2]) as u16, number(&item[2..5]), item[5]) {
+        let length = match fault {
+            Some(Fault::LengthLowByteFirst) => number(&[item[8], item[7]]),
+            _ => number(&item[7..9]),
+        };
+        match desk.add(number(&item[0..2]) as u16, number(&item[2..5]), item[5], item[6], length as u16) {
             Ok(_) if fault == Some(Fault::IndexForSlot) => writeln!(out, "T {index}").unwrap(),
             Ok(slot) => writeln!(out, "T {slot}").unwrap(),
             Err(refusal) => {
@@ -116,10 +123,13 @@ mod tests {
         digits.chunks(2).map(|pair| pair[0] << 4 | pair[1]).collect()
     }
 
-    fn whole_case() -> Vec<u8> {
+    /// With home tuner 0, and this length.
+    fn whole_case(length: u16) -> Vec<u8> {
         let mut packet_a = bytes("15 EA 49 15 15 15 15 15 15 15 15 D0 8C 2F EA A1 FD B6 38 8C 15 15");
         packet_a.resize(42, 0x20);
-        let mut sheet = bytes("01 1D6507BCDE02 0003");
+        let mut sheet = bytes("01 1D6507BCDE02 00");
+        sheet.extend(length.to_be_bytes());
+        sheet.extend([0, 3]);
         for (last, tuner) in [(0x38, 0), (0x3D, 4), (0x42, 1)] {
             sheet.extend([0x04, 0xC5, 0xDF, last, tuner]);
             sheet.extend(&packet_a);
@@ -129,17 +139,19 @@ mod tests {
 
     #[test]
     fn the_whole_case() {
-        assert_eq!(play(&whole_case()), "T 0\nP 0 1\nP 8 1\nP 0 1\nZ 1\n");
+        for length in [1, 90, 1_440] {
+            assert_eq!(play(&whole_case(length)), "T 0\nP 0 1\nP 8 1\nP 0 1\nZ 1\n");
+        }
     }
 
     #[test]
     fn cut_and_left_over() {
-        let mut sheet = whole_case();
+        let mut sheet = whole_case(90);
         for cut in 0..sheet.len() {
             let expected = match cut {
-                0..=6 => "X 0\n",
-                7..=55 => "T 0\nX 0\n",
-                56..=102 => "T 0\nP 0 1\nX 1\n",
+                0..=9 => "X 0\n",
+                10..=58 => "T 0\nX 0\n",
+                59..=105 => "T 0\nP 0 1\nX 1\n",
                 _ => "T 0\nP 0 1\nP 8 1\nX 1\n",
             };
             assert_eq!(play(&sheet[..cut]), expected, "cut at {cut}");

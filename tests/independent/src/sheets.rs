@@ -1,8 +1,9 @@
 //! Random sheets, the same for the same seed, of scenes in which states change.
-use crate::calls::Call;
+use crate::calls::{Call, Timer};
 use crate::paper;
 use crate::random::Random;
-use crate::scenes::{Packet, Scene, Timer};
+use crate::scenes::{Packet, Scene};
+use crate::sheet::TIMER;
 
 /// How many sheets the tests play.
 pub const SHEETS: u64 = 10_000;
@@ -10,10 +11,11 @@ pub const SHEETS: u64 = 10_000;
 /// The bytes of whole sections, with these counts.
 pub fn bytes(timers: &[Timer], packets: &[Packet]) -> Vec<u8> {
     let mut sheet = vec![timers.len() as u8];
-    for &(cni, pil, year) in timers {
-        sheet.extend(cni.to_be_bytes());
-        sheet.extend(&pil.to_be_bytes()[1..]);
-        sheet.push(year);
+    for timer in timers {
+        sheet.extend(timer.cni.to_be_bytes());
+        sheet.extend(&timer.pil.to_be_bytes()[1..]);
+        sheet.extend([timer.year, timer.tuner]);
+        sheet.extend(timer.length.to_be_bytes());
     }
     sheet.extend((packets.len() as u16).to_be_bytes());
     for (time, tuner, packet) in packets {
@@ -30,10 +32,10 @@ fn sections(r: &mut Random, scene: &mut Scene, length: u64) -> (Vec<Timer>, Vec<
     (timers, packets)
 }
 
-/// The packets of a stretch of PRF 1.
-fn stretch(r: &mut Random, scene: &mut Scene) -> Vec<Packet> {
-    let (calls, until) = match scene.stretch(r) {
-        Some(stretch) => stretch.packets_only().made(),
+/// The packets of these calls, which reach some second.
+fn packets(scene: &mut Scene, made: Option<(Vec<Call>, u32)>) -> Vec<Packet> {
+    let (calls, until) = match made {
+        Some(made) => made,
         None => return Vec::new(),
     };
     scene.pass(until);
@@ -44,16 +46,33 @@ fn stretch(r: &mut Random, scene: &mut Scene) -> Vec<Packet> {
     calls.into_iter().filter_map(packet).collect()
 }
 
+/// The packets of a stretch of PRF 1.
+fn stretch(r: &mut Random, scene: &mut Scene) -> Vec<Packet> {
+    let made = scene.stretch(r).map(|stretch| stretch.packets_only().made());
+    packets(scene, made)
+}
+
+/// Those of one in which the labels of a home tuner fail.
+fn failing(r: &mut Random, scene: &mut Scene) -> Vec<Packet> {
+    let made = scene.failing(r).map(|failing| failing.packets_only().made());
+    packets(scene, made)
+}
+
 pub fn sheet(seed: u64) -> Vec<u8> {
     let mut random = Random::new(seed ^ 0x5EE7);
     let r = &mut random;
     let mut scene = Scene::of(seed, r);
     let length = scene.length(r);
-    let before = r.below(2 * length + 2);
-    let (timers, mut packets) = sections(r, &mut scene, before.min(length));
-    if before < length {
-        packets.extend(stretch(r, &mut scene));
-        packets.extend((before..length).map(|_| scene.packet(r)));
+    let (before, fails) = (r.below(2 * length + 2), r.below(2 * length + 2));
+    let (timers, mut packets) = sections(r, &mut scene, 0);
+    for n in 0..length {
+        if n == before {
+            packets.extend(stretch(r, &mut scene));
+        }
+        if n == fails {
+            packets.extend(failing(r, &mut scene));
+        }
+        packets.push(scene.packet(r));
     }
     let mut sheet = bytes(&timers, &packets);
     match r.below(16) {
@@ -69,7 +88,7 @@ pub fn sheet(seed: u64) -> Vec<u8> {
         }
         4 => {
             // a count that is not that of the items
-            let at = if r.once_in(2) { 0 } else { 2 + 6 * timers.len() };
+            let at = if r.once_in(2) { 0 } else { 2 + TIMER * timers.len() };
             sheet[at] = sheet[at].wrapping_add(one_or_minus(r));
         }
         _ => {}
@@ -125,7 +144,8 @@ pub fn all_mended(tuner: u8) -> Vec<u8> {
     let (label, mut packet) = (r.label(), r.bytes(42));
     assert_eq!(paper::write(&label, &mut packet), 0);
     r.wrong_bits_in(&mut packet, 16);
-    bytes(&[(0, 0, 0); 255], &vec![(0, tuner, packet); 0xFFFF])
+    let timer = Timer { cni: 0, pil: 0, year: 0, tuner: 0, length: 0 };
+    bytes(&[timer; 255], &vec![(0, tuner, packet); 0xFFFF])
 }
 
 /// Bytes that are hardly a sheet.

@@ -1,10 +1,10 @@
 //! Stretches in which a network leaves PRF at 1 for a minute and more: labels that keep a timer prepared, what breaks that or
 //! does not, and calls at the seconds where the minute is over. A stretch counts as the desk should. Where two places match by
 //! chance it may be wrong, and then its calls only miss their seconds.
-use crate::calls::Call;
+use crate::calls::{Call, Timer};
 use crate::paper::Label;
 use crate::random::Random;
-use crate::scenes::{code, one, sent, Timer};
+use crate::scenes::{code, one, sent};
 
 pub struct Stretch<'a> {
     r: &'a mut Random,
@@ -20,6 +20,8 @@ pub struct Stretch<'a> {
     since: u32,
     /// Another timer, whose label is sent beside from some second on, and where.
     beside: Option<(Timer, u32, (u8, u8))>,
+    /// A place of the home tuner at which a label that matches nothing is sent with the timer's, so that the clock records nothing.
+    home: Option<(u8, u8)>,
     /// A sheet has packets alone.
     packets_only: bool,
     calls: Vec<Call>,
@@ -28,7 +30,13 @@ pub struct Stretch<'a> {
 impl<'a> Stretch<'a> {
     pub fn new(r: &'a mut Random, timer: Timer, places: &'a [(u8, u8)], (now, since): (u32, u32)) -> Stretch<'a> {
         let (place, mi, continued) = (one(r, places), r.below(2) as u8, r.once_in(8));
-        Stretch { r, timer, places, place, mi, continued, now, since, beside: None, packets_only: false, calls: Vec::new() }
+        let (beside, home, calls) = (None, None, Vec::new());
+        Stretch { r, timer, places, place, mi, continued, now, since, beside, home, packets_only: false, calls }
+    }
+
+    pub fn with_home(self) -> Stretch<'a> {
+        let free = (0..4).map(|lci| (self.timer.tuner, lci)).find(|place| !self.places.contains(place));
+        Stretch { home: free, ..self }
     }
 
     pub fn beside(self, timer: Timer) -> Stretch<'a> {
@@ -63,20 +71,23 @@ impl<'a> Stretch<'a> {
     }
 
     fn say(&mut self, place: (u8, u8), pil: u32, mi: u8, prf: u8) {
-        self.send(place, self.timer.0, pil, mi, prf);
+        self.send(place, self.timer.cni, pil, mi, prf);
     }
 
     /// The timer's label at its place.
     fn own(&mut self, prf: u8) {
-        self.say(self.place, self.timer.1, self.mi, prf);
-        if let Some(((cni, pil, _), from, place)) = self.beside.filter(|(_, from, _)| *from <= self.now) {
-            self.send(place, cni, pil, (from % 2) as u8, 1);
+        self.say(self.place, self.timer.pil, self.mi, prf);
+        if let Some((other, from, place)) = self.beside.filter(|(_, from, _)| *from <= self.now) {
+            self.send(place, other.cni, other.pil, (from % 2) as u8, 1);
+        }
+        if let Some(place) = self.home {
+            self.say(place, code(30), 0, 0);
         }
     }
 
     /// A label that matches nothing.
     fn other(&mut self, place: (u8, u8)) {
-        let pil = one(self.r, &[code(30), code(30), code(29), code(31), 0xF_FFFF, self.timer.1 ^ 1]);
+        let pil = one(self.r, &[code(30), code(30), code(29), code(31), 0xF_FFFF, self.timer.pil ^ 1]);
         let (mi, prf) = (self.r.below(2) as u8, self.r.below(2) as u8);
         self.say(place, pil, mi, prf);
     }
@@ -117,7 +128,7 @@ impl<'a> Stretch<'a> {
                 3 => {
                     self.own(1);
                     let place = self.elsewhere();
-                    self.say(place, self.timer.1, 1 - self.mi, 1);
+                    self.say(place, self.timer.pil, 1 - self.mi, 1);
                 }
                 4 if !self.packets_only => {
                     self.own(1);
@@ -130,12 +141,11 @@ impl<'a> Stretch<'a> {
 
     /// Other timers, or the timer itself where it has the slot.
     fn add_or_cancel(&mut self) {
-        let (cni, pil, year) = self.timer;
-        let slot = one(self.r, &[0, 0, 1, 2]);
+        let (timer, slot) = (self.timer, one(self.r, &[0, 0, 1, 2]));
         match self.r.below(3) {
-            0 => self.calls.push(Call::Add(cni ^ 1, pil, year)),
+            0 => self.calls.push(Timer { cni: timer.cni ^ 1, ..timer }.add()),
             1 => self.calls.push(Call::Cancel(slot + 1)),
-            _ => self.calls.extend([Call::Cancel(slot), Call::Add(cni, pil, year)]),
+            _ => self.calls.extend([Call::Cancel(slot), timer.add()]),
         }
     }
 
@@ -149,9 +159,8 @@ impl<'a> Stretch<'a> {
             }
             4 => self.record(),
             5 if !self.packets_only => {
-                let (cni, pil, year) = self.timer;
                 let slot = one(self.r, &[0, 0, 1]);
-                self.calls.extend([Call::Cancel(slot), Call::Add(cni, pil, year)]);
+                self.calls.extend([Call::Cancel(slot), self.timer.add()]);
                 self.since = self.now;
             }
             _ => self.go(),
@@ -217,7 +226,7 @@ impl<'a> Stretch<'a> {
             5 => {
                 let place = self.elsewhere();
                 let prf = self.r.below(2) as u8;
-                self.say(place, self.timer.1, self.mi, prf);
+                self.say(place, self.timer.pil, self.mi, prf);
             }
             _ => self.look(),
         }

@@ -23,15 +23,26 @@ fn cells(line: &str) -> Vec<&str> {
     line.split('|').map(str::trim).collect()
 }
 
+/// An event by date and time.
+pub struct Event {
+    /// As in `01 JY`.
+    pub day: String,
+    pub time: String,
+    /// Where the annex gives it.
+    pub stop: Option<String>,
+}
+
 pub struct Recorder {
     pub name: String,
-    pub events: Vec<String>,
+    pub timers: Vec<Event>,
+    /// How many events it has by programme type or series: they have no timer on the desk.
+    pub others: usize,
 }
 
 impl Recorder {
-    /// Its events by date and time. Those by programme type or series have no timer on the desk.
-    pub fn timers(&self) -> impl Iterator<Item = &str> {
-        self.events.iter().map(String::as_str).filter(|event| !event.starts_with("NSPV"))
+    /// Its timers, each with its name.
+    pub fn named(&self) -> impl Iterator<Item = (&str, &Event)> {
+        self.timers.iter().map(|event| (self.name.as_str(), event))
     }
 }
 
@@ -97,6 +108,27 @@ fn label_of(cell: &str) -> Option<Label> {
     Some(Label { luf, mi, prf, pil: pil.to_string(), day })
 }
 
+/// As in `01 JY 18:40`, with `(STOPTIME 19:15)` after it at times; none where it goes by programme type or series.
+fn event_of(words: &str) -> Option<Event> {
+    if words.starts_with("NSPV") {
+        return None;
+    }
+    let (at, stop) = match words.split_once(" (STOPTIME ") {
+        Some((at, stop)) => (at, Some(stop.strip_suffix(')').unwrap().to_string())),
+        None => (words, None),
+    };
+    let (day, time) = at.rsplit_once(' ').unwrap();
+    Some(Event { day: day.to_string(), time: time.to_string(), stop })
+}
+
+fn recorder_of(line: &str) -> Recorder {
+    let (name, events) = line.split_once(':').unwrap();
+    let events: Vec<&str> = events.split(',').map(str::trim).filter(|event| !event.is_empty()).collect();
+    let timers: Vec<Event> = events.iter().filter_map(|event| event_of(event)).collect();
+    let others = events.len() - timers.len();
+    Recorder { name: name.to_string(), timers, others }
+}
+
 fn row_of(line: &str) -> Row {
     let cells = cells(line);
     assert_eq!(cells.len(), 6, "{line}");
@@ -120,9 +152,7 @@ pub fn tables() -> Vec<Table> {
         }
         let table = tables.last_mut().unwrap();
         if line.starts_with("VCR") {
-            let (name, events) = line.split_once(':').unwrap();
-            let events = events.split(',').map(|event| event.trim().to_string()).filter(|event| !event.is_empty());
-            table.recorders.push(Recorder { name: name.to_string(), events: events.collect() });
+            table.recorders.push(recorder_of(line));
         } else {
             let row = row_of(line);
             assert_eq!(row.states.len(), table.recorders.len(), "{line}");
@@ -179,11 +209,11 @@ fn stored(text: &str) -> Vec<Stored> {
     text.lines().map(line_of).collect()
 }
 
-/// How active a recorder is: 2 where it records, 1 where it is prepared. The desk has no standby, and a programme that is over
-/// waits until its window closes, so that SCAN and STBY are one.
+/// How active a recorder is: 2 where it records, by the clock too, 1 where it is prepared. The desk has no standby, and a programme that
+/// is over waits until its window closes, so that SCAN and STBY are one.
 fn activity(state: &str) -> u8 {
     match state.split(' ').next().unwrap() {
-        "REC" | "recording" | "running" => 2,
+        "REC" | "recording" | "running" | "by" => 2,
         "PTR" | "prepared" => 1,
         "SCAN" | "STBY" | "waiting" | "ended" => 0,
         _ => panic!("no state: {state}"),
@@ -226,11 +256,8 @@ pub struct Comparison<'a> {
 
 /// The desk's timers are those of the annex's recorders, in their order.
 fn timers_are_those(table: &Table, said: &[Said]) -> bool {
-    let expected: Vec<(&str, &str)> = table
-        .recorders
-        .iter()
-        .flat_map(|recorder| recorder.timers().map(move |event| (recorder.name.as_str(), event.rsplit(' ').next().unwrap())))
-        .collect();
+    let timers = table.recorders.iter().flat_map(Recorder::named);
+    let expected: Vec<(&str, &str)> = timers.map(|(recorder, event)| (recorder, event.time.as_str())).collect();
     let held: Vec<(&str, &str)> = said.iter().map(|said| (said.recorder.as_str(), said.event.as_str())).collect();
     held == expected
 }

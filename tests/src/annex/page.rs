@@ -79,7 +79,7 @@ const COUNTS: [&str; 3] = ["what", "rows", "states"];
 /// How many states of a row agree of recorders that have an event with no timer on the desk.
 fn agree_by_one(compared: &Compared) -> usize {
     let recorders = compared.table.recorders.iter().zip(&compared.verdicts);
-    recorders.filter(|(r, verdict)| **verdict == Verdict::Agrees && r.timers().count() < r.events.len()).count()
+    recorders.filter(|(recorder, verdict)| **verdict == Verdict::Agrees && recorder.others > 0).count()
 }
 
 /// A row agrees where each of its states does that is compared.

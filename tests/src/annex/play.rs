@@ -1,5 +1,5 @@
 //! The annex's tables on the independent desk, sent as `docs/ANNEX_E.md` says, and printed as the program prints them.
-use super::{Label, Recorder, Row, Table};
+use super::{Event, Label, Recorder, Row, Table};
 use independent::calendar;
 use independent::calls::{Machine, State};
 use independent::desk::Desk;
@@ -8,6 +8,10 @@ use independent::paper;
 /// Any number serves, and so does any year in which the days are dates.
 const CNI: u16 = 0x2C01;
 const YEAR: u8 = 1;
+/// What the station is heard on, which is every timer's home tuner.
+const TUNER: u8 = 0;
+/// In minutes, where the annex gives no stop time: that of the one programme after which nothing is on air, 15:59 of sequence 11.
+const LENGTH: u16 = 20;
 
 fn numbers<const N: usize>(text: &str) -> [u32; N] {
     let numbers: Vec<u32> = text.split(':').map(|number| number.parse().unwrap()).collect();
@@ -31,6 +35,15 @@ fn programme(day: &str, time: &str) -> u32 {
     calendar::pil(day, month, hour, minute)
 }
 
+/// In minutes.
+fn length(event: &Event) -> u16 {
+    let minutes = |time: &str| {
+        let [hour, minute] = numbers(time);
+        (60 * hour + minute) as u16
+    };
+    event.stop.as_ref().map_or(LENGTH, |stop| minutes(stop) - minutes(&event.time))
+}
+
 fn second(row: &Row) -> u32 {
     let ((month, day), [hours, minutes, seconds]) = (date(&row.day), numbers(&row.time));
     calendar::day_number(YEAR, month, day) as u32 * 86_400 + hours * 3_600 + minutes * 60 + seconds
@@ -38,8 +51,8 @@ fn second(row: &Row) -> u32 {
 
 /// The day that a label has: its own, that of the event with its time, or the row's.
 fn day_of<'a>(table: &'a Table, row: &'a Row, own: Option<&'a str>, time: &str) -> &'a str {
-    let mut events = table.recorders.iter().flat_map(Recorder::timers).map(|event| event.rsplit_once(' ').unwrap());
-    own.or_else(|| events.find(|(_, at)| *at == time).map(|(day, _)| day)).unwrap_or(&row.day)
+    let mut events = table.recorders.iter().flat_map(|recorder| &recorder.timers);
+    own.or_else(|| events.find(|event| event.time == time).map(|event| event.day.as_str())).unwrap_or(&row.day)
 }
 
 fn pil(table: &Table, row: &Row, label: &Label) -> u32 {
@@ -60,32 +73,31 @@ fn send(desk: &mut Desk, table: &Table, row: &Row, time: u32) {
             let label = paper::Label { designation: 2, lci: lci as u8, luf, mi, prf, cni: CNI, pil, ..Default::default() };
             let mut bytes = [0; 42];
             assert_eq!(paper::write(&label, &mut bytes), 0);
-            assert_eq!(desk.packet(time, 0, &bytes), if luf == 1 { 7 } else { 0 });
+            assert_eq!(desk.packet(time, TUNER, &bytes), if luf == 1 { 7 } else { 0 });
         }
     }
 }
 
 fn line(desk: &Desk, table: &Table, row: &Row) -> String {
     let mut line = format!("{} {}", table.sequence, row.time);
-    let timers = table.recorders.iter().flat_map(|recorder| recorder.timers().map(move |event| (&recorder.name, event)));
-    for (slot, (recorder, event)) in timers.enumerate() {
+    for (slot, (recorder, event)) in table.recorders.iter().flat_map(Recorder::named).enumerate() {
         let state = match desk.ask(slot as u8).unwrap() {
             State::Waiting => String::from("waiting"),
             State::Prepared => String::from("prepared"),
             State::Recording(place) => format!("recording {}/{}", place / 4, place % 4),
             State::RunningOn(place) => format!("running on {}/{}", place / 4, place % 4),
             State::Ended => String::from("ended"),
+            State::ByTheClock => String::from("by the clock"),
         };
-        line += &format!(" | {recorder} {} {state}", event.rsplit(' ').next().unwrap());
+        line += &format!(" | {recorder} {} {state}", event.time);
     }
     line
 }
 
 /// A line for each row but those that go back in time.
 pub fn lines(table: &Table, mut desk: Desk) -> Vec<String> {
-    for event in table.recorders.iter().flat_map(Recorder::timers) {
-        let (day, time) = event.rsplit_once(' ').unwrap();
-        desk.add(CNI, programme(day, time), YEAR).unwrap();
+    for event in table.recorders.iter().flat_map(|recorder| &recorder.timers) {
+        desk.add(CNI, programme(&event.day, &event.time), YEAR, TUNER, length(event)).unwrap();
     }
     let mut rows = table.rows.iter().filter(|row| second(row) >= second(&table.rows[0])).peekable();
     let mut lines = Vec::new();

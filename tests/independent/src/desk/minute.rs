@@ -19,9 +19,11 @@ pub(super) struct Past {
     lowest: usize,
     /// It ceased to be prepared by a lapse: no other label took the place of the match.
     lapsed: bool,
-    recorded: bool,
+    pub(super) recorded: bool,
     /// The recording or run-on that it is began after a minute.
     pub(super) started: bool,
+    /// The second from which on it is by the clock, if it is.
+    pub(super) by_the_clock: Option<u32>,
 }
 
 impl Desk {
@@ -43,6 +45,7 @@ impl Desk {
             (Some(Fault::OtherPlaceBreaks), Copy::Prepared { .. }) if past.lowest != lowest => now,
             (Some(Fault::OneSecondForAll), _) => self.first_prepared().unwrap_or(now),
             (_, Copy::Prepared { since }) => since,
+            (Some(Fault::ClockKeepsSecond), Copy::ByTheClock) => before,
             (Some(Fault::PreparedFromStamp), _) => self.stamp(lowest),
             (Some(Fault::PreparedFromRunOn), Copy::RunningOn { since, .. }) => since,
             (Some(Fault::PreparedAfterEnd), _) if ends => now + 1,
@@ -168,19 +171,20 @@ impl Desk {
                 let lowest = self.lowest(held).unwrap_or(past.lowest);
                 let stays = past.since == Some(since);
                 let (first, moments) = if stays { (past.first, past.moments + 1) } else { (lowest, 1) };
-                Past { since: Some(since), last: self.clock, moments, first, lowest, started: false, ..past }
+                Past { since: Some(since), last: self.clock, moments, first, lowest, started: false, by_the_clock: None, ..past }
             }
             Copy::Recording { place, .. } => {
-                let begins = matches!(held.copy, Copy::Waiting | Copy::Prepared { .. });
+                let begins = matches!(held.copy, Copy::Waiting | Copy::Prepared { .. } | Copy::ByTheClock);
                 let prf = self.places[place].map_or(0, |heard| heard.label.prf);
-                Past { recorded: true, started: if begins { prf == 1 } else { past.started }, ..past }
+                Past { recorded: true, started: if begins { prf == 1 } else { past.started }, by_the_clock: None, ..past }
             }
             Copy::RunningOn { .. } => past,
+            Copy::ByTheClock => Past { started: false, by_the_clock: past.by_the_clock.or(Some(self.clock)), ..past },
             Copy::Waiting => {
                 let left = matches!(held.copy, Copy::Prepared { .. });
                 let kept = |label: Label| (label.cni, label.pil) == (held.cni, held.pil);
                 let lapsed = self.places[past.lowest].map_or(false, |heard| kept(heard.label));
-                Past { started: false, lapsed: if left { lapsed } else { past.lapsed }, ..past }
+                Past { started: false, lapsed: if left { lapsed } else { past.lapsed }, by_the_clock: None, ..past }
             }
         }
     }

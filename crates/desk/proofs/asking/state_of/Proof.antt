@@ -18,6 +18,9 @@ enum-known-c c = search needs
 enum-known-c-2 : tie.Need-enum-known-c-2
 enum-known-c-2 c = search needs
 
+enum-told-4 : tie.Need-enum-told-4
+enum-told-4 c = search needs
+
 returns : tie.Need-returns
 returns c = search needs
 
@@ -33,6 +36,9 @@ returns-4 c = rw (c .before .c .given .1)
 returns-5 : tie.Need-returns-5
 returns-5 c = rw (c .before .c2 .given .1)
 
+returns-6 : tie.Need-returns-6
+returns-6 c = rw (c .enum-told4 .given .1)
+
 pub state-of-spec : {M : Type 1} → statement M
 state-of-spec =
     tie.close
@@ -42,8 +48,10 @@ state-of-spec =
     enum-told-3
     enum-known-c
     enum-known-c-2
+    enum-told-4
     returns
     returns-2
     returns-3
     returns-4
-    returns-5)
+    returns-5
+    returns-6)

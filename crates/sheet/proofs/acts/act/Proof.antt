@@ -35,7 +35,7 @@ unfolding linesOf deskLeft
 returns-2 c =
     let t = c .before .before in
     let a = t .before .before .before .before .before .args in
-    rw (t .before .before .enum-told2 .given .1, append-nil (timerTold (take 6 (a .held)) (a .desk))) (t .timer .ensures)
+    rw (t .before .before .enum-told2 .given .1, append-nil (timerTold (take 9 (a .held)) (a .desk))) (t .timer .ensures)
 
 same-length-2 : tie.Need-same-length-2
 same-length-2 c = search needs

@@ -53,12 +53,13 @@ returns c =
     rw (k .a .given .1) (opened (k .before .before .before) (decimal (k .a .given .0 .0) ++ (lineFeed ∷ [])) (e .end-line .ensures))
 
 -- every answer but a slot is told by its number
-by-number : (a : AddAnswer) → OneOf (0 ∷ 1 ∷ 2 ∷ 3 ∷ []) (tagOf the-type a) → addAnswer a ≡ refused (number (addAnswer a))
+by-number : (a : AddAnswer) → OneOf (0 ∷ 1 ∷ 2 ∷ 3 ∷ 4 ∷ []) (tagOf the-type a) → addAnswer a ≡ refused (number (addAnswer a))
 by-number AddAnswer.NotReal h = refl
+by-number AddAnswer.OutOfRange h = refl
 by-number AddAnswer.Ended h = refl
 by-number AddAnswer.Held h = refl
 by-number AddAnswer.Full h = refl
-by-number (AddAnswer.Slot i) h = absurd (miss (0 ∷ 1 ∷ 2 ∷ 3 ∷ []) 4 _ h)
+by-number (AddAnswer.Slot i) h = absurd (miss (0 ∷ 1 ∷ 2 ∷ 3 ∷ 4 ∷ []) 5 _ h)
 
 same-length-2 : tie.Need-same-length-2
 same-length-2 c = search needs
