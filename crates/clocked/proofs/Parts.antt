@@ -1,11 +1,11 @@
 -- What being recorded by the clock takes, and when it begins and ends.
 use Prim.Native.Nat.{ℕ, zero, suc, _+_, _*_, _≤_, _<_}
-use mathlib.Core.Path.{_≡_, refl}
-use mathlib.Core.Bool.{true, false, and-false}
+use mathlib.Core.Path.{_≡_, refl, ap₂}
+use mathlib.Core.Bool.{Bool, true, false, _&&_, and-false}
 use mathlib.Core.List.{List}
 use native.Mathlib.Omega.{arith}
 use borrow.Author.Tests.{le-leb, lt-leb, lt-ltb, le-ltb, eqb-false, leb-true}
-use lib.Dec.{ltb, eqb}
+use lib.Dec.{leb, ltb, eqb}
 use Rattle.answer.specs.Answer.{Answer, refused, given}
 use Rattle.answer.proofs.Cases.{both-true, both-false}
 use Rattle.calendar.specs.Calendar.{opensAt, closesAt, announcedAt, windowIn}
@@ -55,14 +55,16 @@ begins b w e r =
     let within = announced-within (b .pil) (b .year) (k .2) in
     let some-length : b .length ≡ 0 → ⊥ =
     eqb-false (b .length) 0 (both-false (ltb 3 (b .tuner)) (eqb (b .length) 0) (both-false _ (ltb 1440 (b .length)) r .0) .1) in
+    let first : leb a a ≡ true = le-leb a a (omega arith) in
+    let lasts : ltb a (a + 60 * b .length) ≡ true = lt-ltb a (a + 60 * b .length) (after-it (b .length) a some-length) in
+    let opened : openIn a (windowIn (b .pil) (b .year)) ≡ true =
     rw (
       windowIn-real (b .pil) (b .year) (k .0) (k .1) (k .2),
-      le-leb a a (omega arith),
-      lt-ltb a (a + 60 * b .length) (after-it (b .length) a some-length),
       le-leb (opensAt (b .pil) (b .year)) a (within .0),
       lt-ltb a (closesAt (b .pil) (b .year)) (within .1),
     )
-    refl
+    refl in
+    ap₂ (λ (t u : Bool). t && u) (ap₂ (λ (t u : Bool). t && u) first lasts) opened
 
 module _ (s : ℕ) (b : Booking) where
   pub not-before : s < announcedAt (b .pil) (b .year) → onTime s b ≡ false

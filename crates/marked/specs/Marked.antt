@@ -300,8 +300,8 @@ RunsOut t slot b (e ∷ es) = Undisturbed b e →
     × RunsOut t slot b es
 
 -- 'a timer not live' at second s, and the second since which it is prepared if it is so now: it waits, or was by the clock, which 'is treated as
--- not live', or is prepared since v and for no more than 60 seconds, or 'goes on in this same moment as a timer that is not live' from a recording with MI 1 whose label matches no longer, or
--- from a run-on of thirty seconds
+-- not live', or is prepared since v and for no more than 60 seconds, or 'goes on in this same moment as a timer that is not live' from a
+-- recording with MI 1 whose label matches no longer, or from a run-on of thirty seconds
 pub data NotLive (s : ℕ) (ls : List Stamped) (b : Booking) : Copy → ℕ → Type 0 where
   waits : NotLive s ls b Waiting s
   by-clock : NotLive s ls b ByTheClock s
