@@ -1,5 +1,5 @@
 -- Ages in seconds, compared without a difference: a sum in 64 bits does not wrap.
-use Prim.Native.Nat.{ℕ, _+_, _-_, _≤_, _<_}
+use Prim.Native.Nat.{ℕ, _+_, _-_, _<_}
 use mathlib.Core.Path.{_≡_, sym, _∙_}
 use native.Mathlib.Omega.{arith}
 use native.Mathlib.Decide.{decLe}
@@ -13,11 +13,14 @@ at-most s v n =
       | no h ↦ lt-leb s (v + n) (omega arith) ∙ sym (lt-leb (s - v) n (omega arith))
     ]
 
-pub below : (s v n : ℕ) → 0 < n → ltb s (v + n) ≡ ltb (s - v) n
+-- where n is not 0, or from v on
+pub below : (s v n : ℕ) → (s < v → 0 < n) → ltb s (v + n) ≡ ltb (s - v) n
 below s v n p =
     elim (decLe (v + n) s) [
       | yes h ↦ le-ltb s (v + n) h ∙ sym (le-ltb (s - v) n (omega arith))
-      | no h ↦ lt-ltb s (v + n) (omega arith) ∙ sym (lt-ltb (s - v) n (omega arith))
+      | no h ↦
+          let young : s - v < n = elim (decLe v s) [ yes k ↦ omega arith | no k ↦ omega (arith, p (omega arith)) ] in
+          lt-ltb s (v + n) (omega arith) ∙ sym (lt-ltb (s - v) n young)
     ]
 
 pub above : (s v n : ℕ) → ltb (v + n) s ≡ ltb n (s - v)
@@ -25,12 +28,4 @@ above s v n =
     elim (decLe s (v + n)) [
       | yes h ↦ le-ltb (v + n) s h ∙ sym (le-ltb n (s - v) (omega arith))
       | no h ↦ lt-ltb (v + n) s (omega arith) ∙ sym (lt-ltb n (s - v) (omega arith))
-    ]
-
--- from v on
-pub below-from : (s v n : ℕ) → v ≤ s → ltb s (v + n) ≡ ltb (s - v) n
-below-from s v n p =
-    elim (decLe (v + n) s) [
-      | yes h ↦ le-ltb s (v + n) h ∙ sym (le-ltb (s - v) n (omega arith))
-      | no h ↦ lt-ltb s (v + n) (omega arith) ∙ sym (lt-ltb (s - v) n (omega arith))
     ]

@@ -66,13 +66,9 @@ isTimerControl NoSpecificValue = false
 unfoldable pub timerControl : ℕ → Stamped → Bool
 timerControl s l = stands s l && isTimerControl (serviceOf (l .pil))
 
--- 'no label stands on any place .., or timer-control stands on one'
-abbrev pub failAmong : ℕ → List Stamped → Bool
-failAmong s ls = not (some (stands s) ls) || some (timerControl s) ls
-
--- the same of 'the home tuner'
+-- 'no label stands on any place of the home tuner, or timer-control stands on one'
 unfoldable pub labelsFail : ℕ → List Stamped → ℕ → Bool
-labelsFail s ls tuner = failAmong s (ofTuner tuner ls)
+labelsFail s ls tuner = not (some (stands s) (ofTuner tuner ls)) || some (timerControl s) (ofTuner tuner ls)
 
 -- ── The lowest ─────────────────────────────────────────────────────────────────────────────────────────────────────
 pub data Found : Type 0 where

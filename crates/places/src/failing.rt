@@ -1,7 +1,9 @@
 // When the labels of a tuner fail.
-ghost use mathlib.Core.Path.{_≡_};
+ghost use mathlib.Core.Bool.{not, _||_};
 ghost use mathlib.Core.List.{[], _∷_};
-ghost use Rattle.places.specs.Places.{isTimerControl, timerControl, failAmong, labelsFail};
+ghost use mathlib.Core.Path.{_≡_};
+ghost use Rattle.answer.specs.Lists.{some};
+ghost use Rattle.places.specs.Places.{stands, isTimerControl, timerControl, labelsFail};
 use crate::Stamped;
 use crate::standing::stands;
 use label::pil::Service;
@@ -33,7 +35,7 @@ fn timer_control(s: u32, l: Stamped) -> bool
 
 // At the four places of a tuner.
 fn fail_at(s: u32, a: Stamped, b: Stamped, c: Stamped, d: Stamped) -> bool
-    ensures { λ r. ⌜ r ≡ failAmong s (a ∷ b ∷ c ∷ d ∷ []) ⌝ }
+    ensures { λ r. ⌜ (let four = a ∷ b ∷ c ∷ d ∷ [] in r ≡ (not (some (stands s) four) || some (timerControl s) four)) ⌝ }
 {
     let up = stands(a, s) | (stands(b, s) | (stands(c, s) | stands(d, s)));
     if up {

@@ -38,7 +38,7 @@ returns-2 c =
     let a = o .before .args in
     let lasts : endedAt (a .s) (a .b) ≡ false = sym (o .ended-at .ensures) ∙ v .before .if1 .left in
     let on : ltb (a .s) (a .v + runFor) ≡ true = c .before .if2 .taken in
-    rw (running-on (a .s) (a .places) (a .b) (a .p) (a .v) lasts, ← below (a .s) (a .v) runFor (omega arith), on, ← v .sight-of .ensures) (c .moves-or .ensures)
+    rw (running-on (a .s) (a .places) (a .b) (a .p) (a .v) lasts, ← below (a .s) (a .v) runFor (λ l. omega arith), on, ← v .sight-of .ensures) (c .moves-or .ensures)
 
 not-live-requires : tie.Need-not-live-requires
 not-live-requires c κs = search needs
@@ -51,7 +51,7 @@ returns-3 c =
     let a = o .before .args in
     let lasts : endedAt (a .s) (a .b) ≡ false = sym (o .ended-at .ensures) ∙ v .before .if1 .left in
     let out : ltb (a .s) (a .v + runFor) ≡ false = c .before .if2 .left in
-    rw (running-on (a .s) (a .places) (a .b) (a .p) (a .v) lasts, ← below (a .s) (a .v) runFor (omega arith), out, ← v .sight-of .ensures, moves-not-live) (c .not-live .ensures)
+    rw (running-on (a .s) (a .places) (a .b) (a .p) (a .v) lasts, ← below (a .s) (a .v) runFor (λ l. omega arith), out, ← v .sight-of .ensures, moves-not-live) (c .not-live .ensures)
 
 pub from-running-on-spec : {M : Type 1} → statement M
 from-running-on-spec =
