@@ -46,6 +46,11 @@ pub fn second() -> Row {
     row(5, 0, 0, 0, &[])
 }
 
+/// The row of a panel that reads the count so often; a second passes where the readings come to this sum.
+pub fn panel(often: u32, sum: u16) -> Row {
+    row(6, often, sum, 0, &[])
+}
+
 /// What the program answers to rows, each of which begins with a fresh desk.
 pub fn answered(rows: &[Vec<Row>]) -> Vec<Answered> {
     let input: Vec<u8> = rows.iter().flatten().flatten().copied().collect();

@@ -4,7 +4,7 @@
 use against_the_world::rows::{self, Answered};
 use against_the_world::threads;
 use against_the_world::walk::{self, Walked};
-use independent::calls::{self, Call, Machine};
+use independent::calls::{self, Call, Machine, State};
 use independent::desk::Desk;
 use independent::sheets;
 
@@ -93,5 +93,48 @@ fn seconds_answer_the_same_one_by_one() {
     let sent: Vec<_> = (0..BATCH as u64).map(row).collect();
     for (seed, mut desk) in (0..).zip(rows::answered(&sent)) {
         after_each_second(seed, SECONDS, &mut desk);
+    }
+}
+
+/// 'The full count, clock recordings included', of the slots that an answer tells.
+fn full_count(desk: &Answered) -> u8 {
+    let live = |slot: &u8| matches!(desk.ask(*slot), Ok(State::Recording(_) | State::RunningOn(_) | State::ByTheClock));
+    (0..16).filter(live).count() as u8
+}
+
+/// The number that the desk keeps 'equals the full count after every call, refused or not': it beside the slots of the same answer.
+/// Among the calls are many that are refused while timers are live, and that end a live copy: by cancelling it, and by waiting.
+#[test]
+fn the_number_is_the_full_count() {
+    const FEW: usize = 100;
+    let made: Vec<Vec<Call>> = (0..BATCH as u64).map(calls::calls).collect();
+    let sent: Vec<_> = made.iter().map(|calls| rows::begun(calls).collect()).collect();
+    let (mut refused, mut cancelled, mut waited, mut clocked) = (0, 0, 0, 0);
+    for ((n, calls), mut desk) in made.iter().enumerate().zip(rows::answered(&sent)) {
+        for call in calls.iter().filter(|call| !matches!(call, Call::Ask(_))) {
+            let before = desk.live();
+            let (number, _) = desk.next();
+            let now = desk.live();
+            assert_eq!(now, full_count(&desk), "row {n}, {call:?}");
+            refused += (number != 0 && now > 0) as usize;
+            cancelled += (matches!(call, Call::Cancel(_)) && now < before) as usize;
+            waited += (matches!(call, Call::Wait(_)) && now < before) as usize;
+            clocked += (0..16).any(|slot| desk.ask(slot) == Ok(State::ByTheClock)) as usize;
+        }
+    }
+    assert!([refused, cancelled, waited, clocked].iter().all(|&n| n > FEW), "{refused} {cancelled} {waited} {clocked}");
+}
+
+/// A panel reads the number as often as it likes, and nothing passes.
+#[test]
+fn a_panel_reads_the_number() {
+    const OFTEN: u32 = 5;
+    let row = |seed| rows::begun(&calls::calls(seed)).chain([rows::panel(OFTEN, u16::MAX)]).collect();
+    let sent: Vec<_> = (0..BATCH as u64).map(row).collect();
+    for (seed, mut desk) in (0..).zip(rows::answered(&sent)) {
+        calls::play(&mut desk, &calls::calls(seed));
+        let (before, count) = (told(&desk), full_count(&desk));
+        assert_eq!(desk.next(), (0, OFTEN * count as u32), "row {seed}");
+        assert_eq!(told(&desk), before, "row {seed}");
     }
 }

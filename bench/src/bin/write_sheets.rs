@@ -122,6 +122,9 @@ fn main() -> std::io::Result<()> {
     // few enough to count every instruction, around a change of programmes, so that recordings end and begin
     let change = day.partition_point(|&(time, ..)| time < day[0].0 + LENGTH);
     write("change", sheets::bytes(&timers, &day[change - CHANGE / 2..change + CHANGE / 2]))?;
+    // from a tuner that there is not: no second passes and no copy goes on, but each line tells the count
+    let refused = vec![(0, 4, packet(&Label { designation: 2, ..Label::default() })); CHANGE];
+    write("refused", sheets::bytes(&timers, &refused))?;
     let century = END / 30_000;
     write("minutes", sheets::bytes(&timers, &apart(0, 30_000, 60)))?;
     write("century", sheets::bytes(&timers, &apart(0, 30_000, century)))?;

@@ -1,5 +1,5 @@
-// A row: byte 0 the call; 1 to 4 a time or a PIL; 5 and 6 a CNI; 7 a tuner, a year or a slot. Of a packet, 8 is the length of what follows;
-// of a timer, 8 is its home tuner, and 9 and 10 are its length.
+// A row: byte 0 the call; 1 to 4 a time, a PIL or how often; 5 and 6 a CNI or a sum; 7 a tuner, a year or a slot. Of a packet, 8 is the length
+// of what follows; of a timer, 8 is its home tuner, and 9 and 10 are its length.
 ghost use Prim.Native.Nat.{_≤_};
 use answer::four;
 use answer::pair;
@@ -76,6 +76,25 @@ fn second(d: Desk) -> Said {
     saying(a.number(), 0, next)
 }
 
+// A panel that reads the count so often, and what its readings add up to. A second passes each time that this is `sum`, so that no
+// reading can stand for the next one.
+fn panel(d: Desk, often: u32, sum: u16) -> Said {
+    let passing = sum as u32;
+    let mut desk = d;
+    let mut all: u32 = 0;
+    let mut k: u32 = 0;
+    while k < often {
+        let live = desk.live();
+        all = (all + live % 256) % 65536;
+        if all == passing {
+            let passed = desk.second();
+            desk = passed.desk;
+        }
+        k += 1;
+    }
+    saying(0, all, desk)
+}
+
 // Any other call is a fresh desk. Asking is no call of a row: every answer asks each slot.
 pub(crate) fn call(d: Desk, row: [u8; 128]) -> Said {
     let number = four(row[1], row[2], row[3], row[4]);
@@ -85,6 +104,7 @@ pub(crate) fn call(d: Desk, row: [u8; 128]) -> Said {
         3 => add(d, number, row),
         4 => cancel(d, row[7] as usize),
         5 => second(d),
-        0 | 6..=255 => saying(0, 0, Desk::new()),
+        6 => panel(d, number, pair(row[5], row[6])),
+        0 | 7..=255 => saying(0, 0, Desk::new()),
     }
 }

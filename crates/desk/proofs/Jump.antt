@@ -9,11 +9,11 @@ use borrow.Author.Tests.{leb-false, lt-leb, not-true}
 use lib.Dec.{leb}
 use lib.ListN.{getD, List·getD-map}
 use Rattle.answer.proofs.Cases.{both-true, both-false}
-use Rattle.answer.specs.Lists.{some}
+use Rattle.answer.specs.Lists.{some, count}
 use Rattle.places.specs.Places.{noLabel, standFor, stands, nowhere, lowestFrom}
 use Rattle.matching.specs.Matching.{endedAt, matches, sightOf}
 use Rattle.clocked.specs.Clocked.{clocked}
-use Rattle.rule.specs.Rule.{clockOr, held, nextCopy, nextTimer, byLabels, byLabelsTimer}
+use Rattle.rule.specs.Rule.{clockOr, held, nextCopy, nextTimer, byLabels, byLabelsTimer, liveTimer}
 use Rattle.places.specs.declared.Stamped.{Stamped}
 use Rattle.matching.specs.declared.Booking.{Booking}
 use Rattle.rule.specs.declared.Copy.{Copy}
@@ -165,7 +165,7 @@ walk-jump (suc n) d q =
     let p′ : NoneStands s (d .places) = none-stands-later c s (d .places) (omega arith) (q .none-stands) in
     walk-jump n (nextSecond d) (nextSecond-quiet d q)
     ∙ ap (λ x. moment (clockedAt x (nextSecond d))) e
-    ∙ ap (λ ts. record { clock = s; places = d .places; timers = ts }) (skip (suc c) s (d .places) p p′ (d .timers) (q .none-by-labels))
+    ∙ ap (λ ts. record { clock = s; live = count liveTimer ts; places = d .places; timers = ts }) (skip (suc c) s (d .places) p p′ (d .timers) (q .none-by-labels))
 
 pub quiet-walk : (n : ℕ) (d : Desk) → quiet d ≡ true → quiet (walk n d) ≡ true
 quiet-walk n d q = is-quiet (walk n d) (walk-keeps Quiet nextSecond-quiet n d (quiet-is d q))

@@ -2,16 +2,17 @@
 use mathlib.Core.Path.{_≡_}
 use Rattle.answer.specs.Answer.{number, after}
 use Rattle.answer.proofs.Answers.{equation, paired}
-use Rattle.desk.specs.Moments.{fresh, liveCount}
+use Rattle.desk.specs.Moments.{fresh}
 use Rattle.desk.specs.Calls.{packetOf}
 use Rattle.reply.specs.Numbers.{packetNumber}
 use Rattle.desk.specs.Laws.{Laws}
-use Rattle.desk.proofs.Settle.{moment-settled}
+use Rattle.desk.proofs.Settle.{moment-settled, moment-counted}
 use Rattle.desk.proofs.Only.{packet-unique, wait-unique, second-unique, add-unique, cancel-unique, ask-unique}
 
 pub laws : Laws
 laws = record {
   twice = moment-settled;
+  counts = moment-counted;
   new-unique = equation fresh;
   packet-unique =
       λ d tuner t bytes.
@@ -22,5 +23,5 @@ laws = record {
   add-unique = add-unique;
   cancel-unique = cancel-unique;
   ask-unique = ask-unique;
-  live-unique = λ d. equation (liveCount d);
+  live-unique = λ d. equation (d .live);
 }

@@ -1,4 +1,4 @@
--- A second moment at the same second changes nothing, so that every moment leaves a settled desk.
+-- A second moment at the same second changes nothing, so that every moment leaves a settled desk, and one that keeps the count.
 use Prim.Native.Nat.{ℕ, zero, suc, _-_, _≤_}
 use mathlib.Core.Path.{_≡_, refl, _∙_}
 use mathlib.Core.Bool.{Bool, true, false, cond, not, _&&_, and-false}
@@ -21,7 +21,7 @@ use Rattle.matching.specs.declared.Sight.{Sight}
 use Rattle.matching.specs.declared.Sight.the-variants.{Nothing, Prepare, Start}
 use Rattle.matching.proofs.Sights.{seen-is}
 use Rattle.rule.proofs.Steps.{free-copy}
-use Rattle.desk.specs.Moments.{moment, clockedAt, nextSecond, walk}
+use Rattle.desk.specs.Moments.{moment, clockedAt, nextSecond, walk, liveCount}
 use Rattle.desk.specs.declared.Desk.{Desk}
 
 -- ── what is found passes ───────────────────────────────────────────────────────────────────────────────────────────
@@ -164,6 +164,17 @@ Settled d = moment d ≡ d
 pub moment-settled : (d : Desk) → Settled (moment d)
 unfolding moment
 moment-settled d = rw (map-twice (nextTimer (d .clock) (d .places)) (nextTimer-twice (d .clock) (d .places)) (d .timers))
+
+-- and it keeps the full count
+abbrev pub Counted : Desk → Type 0
+Counted d = d .live ≡ liveCount d
+
+pub moment-counted : (d : Desk) → Counted (moment d)
+unfolding moment liveCount
+moment-counted d = refl
+
+pub settled-counted : (d : Desk) → Settled d → Counted d
+settled-counted d h = rw h at (moment-counted d)
 
 pub nextSecond-settled : (d : Desk) → Settled (nextSecond d)
 unfolding nextSecond

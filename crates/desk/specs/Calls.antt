@@ -45,7 +45,7 @@ placeOf tuner l = tuner * 4 + l .lci
 abbrev pub withLabel : ℕ → Label → Desk → Desk
 withLabel tuner l d =
     let p = placeOf tuner l in
-    record { clock = d .clock; places = set (d .places) p (heardAt (d .clock) l (getD (d .places) p noLabel)); timers = d .timers }
+    record { clock = d .clock; live = d .live; places = set (d .places) p (heardAt (d .clock) l (getD (d .places) p noLabel)); timers = d .timers }
 
 -- 'first passes every second up to t, then takes effect', and 'each accepted call' is a moment
 unfoldable pub hearingAt : ℕ → ℕ → Label → Desk → Desk
@@ -80,7 +80,7 @@ unfoldable pub roomIn : Desk → Found
 roomIn d = roomAt (d .clock) (d .timers)
 
 abbrev pub withTimer : ℕ → Timer → Desk → Desk
-withTimer slot t d = record { clock = d .clock; places = d .places; timers = set (d .timers) slot t }
+withTimer slot t d = record { clock = d .clock; live = d .live; places = d .places; timers = set (d .timers) slot t }
 
 abbrev pub addRows : Booking → Desk → Window → List Row
 addRows b d w =

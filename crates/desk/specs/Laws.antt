@@ -19,6 +19,8 @@ use Rattle.desk.specs.declared.Passed.{Passed}
 pub record Laws : Type 0 where
   -- 'a second moment at the same second, with nothing new, changes nothing'
   pub twice : (d : Desk) → moment (moment d) ≡ moment d
+  -- the number that a moment leaves with the desk is the full count, whatever number was kept before (02, #106)
+  pub counts : (d : Desk) → moment d .live ≡ liveCount (moment d)
   -- each call's promise allows one outcome
   pub new-unique : Unique (λ (r : Desk). r ≡ fresh)
   pub packet-unique : (d : Desk) (tuner t : ℕ) (bytes : List ℕ) →
@@ -29,4 +31,4 @@ pub record Laws : Type 0 where
   pub cancel-unique : (d : Desk) (slot : ℕ) →
       Unique (λ (r : Cancelled). (cancelNumber (r .answer) ≡ number (cancelOf slot d)) × (r .desk ≡ after d (cancelOf slot d)))
   pub ask-unique : (d : Desk) (slot : ℕ) → Unique (λ (r : AskAnswer). askAnswer r ≡ askOf slot d)
-  pub live-unique : (d : Desk) → Unique (λ (r : ℕ). r ≡ liveCount d)
+  pub live-unique : (d : Desk) → Unique (λ (r : ℕ). r ≡ d .live)

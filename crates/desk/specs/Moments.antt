@@ -9,17 +9,20 @@ use Rattle.rule.specs.Rule.{nextTimer, byLabelsTimer, liveTimer}
 use Rattle.sixteen.specs.Sixteen.{noTimer}
 use Rattle.desk.specs.declared.Desk.{Desk}
 
--- 'a fresh desk has clock 0, no label at any place and every slot free'
+-- 'a fresh desk has clock 0, no label at any place and every slot free'; none is live
 abbrev pub fresh : Desk
-fresh = record { clock = 0; places = replicate 16 noLabel; timers = replicate 16 noTimer }
+fresh = record { clock = 0; live = 0; places = replicate 16 noLabel; timers = replicate 16 noTimer }
 
--- 'at each moment every timer's copy goes on'
+-- 'at each moment every timer's copy goes on', and the number that is kept 'with the desk' becomes 'the full count, clock recordings included'
+-- (02, #106)
 unfoldable pub moment : Desk → Desk
-moment d = record { clock = d .clock; places = d .places; timers = map (nextTimer (d .clock) (d .places)) (d .timers) }
+moment d =
+    let timers = map (nextTimer (d .clock) (d .places)) (d .timers) in
+    record { clock = d .clock; live = count liveTimer timers; places = d .places; timers = timers }
 
 -- the same desk with its clock at second s
 abbrev pub clockedAt : ℕ → Desk → Desk
-clockedAt s d = record { clock = s; places = d .places; timers = d .timers }
+clockedAt s d = record { clock = s; live = d .live; places = d .places; timers = d .timers }
 
 -- 'each whole second is a moment'
 unfoldable pub nextSecond : Desk → Desk
@@ -47,6 +50,6 @@ walkedIn (suc n) d = let more = suc (walkedIn n (nextSecond d)) in cond (quiet d
 unfoldable pub walkedTo : ℕ → Desk → ℕ
 walkedTo t d = walkedIn (t - d .clock) d
 
--- 'the count of live timers'
+-- 'the full count' of live timers, over all slots
 unfoldable pub liveCount : Desk → ℕ
 liveCount d = count liveTimer (d .timers)

@@ -1,6 +1,5 @@
 // Asking: it changes nothing.
 ghost use mathlib.Core.Path.{_≡_};
-ghost use Rattle.desk.specs.Moments.{liveCount};
 ghost use Rattle.desk.specs.Calls.{copySays, askOf};
 ghost use Rattle.reply.specs.Numbers.{stateSays, askAnswer};
 use crate::Desk;
@@ -9,7 +8,6 @@ use reply::AskAnswer;
 use reply::State;
 use rule::Copy;
 use rule::copies::is_held;
-use sixteen::slots::count_live;
 use sixteen::slots::timer_at;
 
 fn state_of(c: Copy) -> State
@@ -46,11 +44,10 @@ impl Desk {
         AskAnswer::Says(state)
     }
 
-    // 'The count of live timers.'
+    // 'The count of live timers', as the desk keeps it.
     pub fn live(self) -> u32
-        ensures { λ r. ⌜ r ≡ liveCount self ⌝ }
+        ensures { λ r. ⌜ r ≡ self .live ⌝ }
     {
-        let timers = self.timers;
-        count_live(timers)
+        self.live
     }
 }

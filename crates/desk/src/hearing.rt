@@ -27,6 +27,7 @@ impl Desk {
         let next = put_label(places, p, new);
         Desk {
             clock: self.clock,
+            live: self.live,
             places: next,
             timers: timers,
         }

@@ -15,8 +15,10 @@ ghost use mathlib.Core.Bool.{true};
 ghost use mathlib.Core.Path.{_≡_};
 ghost use Rattle.desk.specs.Laws.{Laws};
 
+// `live` is how many timers are live: each moment counts them, so that reading it looks at no slot.
 pub struct Desk {
     pub clock: u32,
+    pub live: u32,
     pub places: [Stamped; 16],
     pub timers: [Timer; 16],
 }

@@ -34,22 +34,25 @@ impl Desk {
         let t = no_timer();
         Desk {
             clock: 0,
+            live: 0,
             places: [l; 16],
             timers: [t; 16],
         }
     }
 
-    // 'At each moment every timer's copy goes on.'
+    // 'At each moment every timer's copy goes on', and the count of those that are live is kept.
     fn moment_at(self, s: u32) -> Desk
         ensures { λ r. ⌜ r ≡ moment (clockedAt s self) ⌝ }
     {
         let places = self.places;
         let timers = self.timers;
         let next = all_next(s, places, timers);
+        let moved = next.timers;
         Desk {
             clock: s,
+            live: next.live,
             places: places,
-            timers: next,
+            timers: moved,
         }
     }
 

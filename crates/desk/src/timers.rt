@@ -35,6 +35,7 @@ impl Desk {
         let next = put_timer(timers, slot, t);
         Desk {
             clock: self.clock,
+            live: self.live,
             places: places,
             timers: next,
         }

@@ -1,6 +1,7 @@
 -- The laws of every sequence of calls from a fresh desk.
 use Prim.Native.Nat.{_-_}
 use Rattle.desk.specs.Moments.{walk, walkedTo}
+use Rattle.desk.proofs.Settle.{settled-counted}
 use Rattle.history.specs.Run.{reached}
 use Rattle.history.specs.Laws.{Laws}
 use Rattle.history.proofs.Refused.{accepted-alone}
@@ -24,6 +25,7 @@ laws =
       wait-before = λ cs u tuner t bytes. wait-before u tuner t bytes (reached cs) (sound-reached cs .settled);
       one-copy = λ cs n. one-copy _ (sound-walk n (reached cs) (sound-reached cs));
       no-two = λ cs n. no-two _ (sound-walk n (reached cs) (sound-reached cs));
+      live-kept = λ cs n. settled-counted _ (sound-walk n (reached cs) (sound-reached cs) .settled);
       walked-least = walked-least;
       walked-unique = walked-unique;
       walked-short = λ cs t. walked-short (t - reached cs .clock) (reached cs) (sound-reached cs);

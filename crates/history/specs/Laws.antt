@@ -1,4 +1,4 @@
--- Demand 3 (document 01, 'The second-by-second rule' and 'How tight the statements are'; 02, #101 and #105). Proved in proofs/Proved.antt.
+-- Demand 3 (document 01, 'The second-by-second rule' and 'How tight the statements are'; 02, #101, #105 and #106). Proved in proofs/Proved.antt.
 use Prim.Native.Nat.{ℕ, _+_, _-_, _≤_, _<_}
 use mathlib.Core.Path.{_≡_}
 use mathlib.Core.Bool.{Bool, true, false, _&&_}
@@ -22,7 +22,7 @@ use Rattle.rule.specs.declared.Timer.{Timer}
 use Rattle.matching.specs.declared.Sight.the-variants.{Start}
 use Rattle.desk.specs.declared.Desk.{Desk}
 use Rattle.sixteen.specs.Sixteen.{active, sameBooking}
-use Rattle.desk.specs.Moments.{fresh, moment, walk, quiet, walkedIn, walkedTo}
+use Rattle.desk.specs.Moments.{fresh, moment, walk, quiet, walkedIn, walkedTo, liveCount}
 use Rattle.desk.specs.Calls.{Told, packetOf, addOf, askOf, timerAt}
 use Rattle.history.specs.Run.{Call, packet, wait, add, cancel, deskAfter, answersOf, reached, accepted, givenOnes}
 use Rattle.history.specs.Prepared.{momentsIn, NoPrf0, OnlyPrf1, PreparedThenRecords, preparedSince}
@@ -133,6 +133,9 @@ pub record Laws : Type 0 where
   pub no-two : (cs : List Call) (n i j : ℕ) → i < j →
       let t = timerAt (walk n (reached cs)) i in let u = timerAt (walk n (reached cs)) j in
       liveTimer t ≡ true → liveTimer u ≡ true → t .booking .cni ≡ u .booking .cni → t .booking .pil ≡ u .booking .pil → ⊥
+  -- 'keep the number with the desk; it equals the full count, clock recordings included, after every call, refused or not' (02, #106), and at
+  -- every second that passes
+  pub live-kept : (cs : List Call) (n : ℕ) → walk n (reached cs) .live ≡ liveCount (walk n (reached cs))
   -- the walked count is that least number, no other number is, and it is never more than 36
   pub walked-least : (n : ℕ) (d : Desk) → Walked n d (walkedIn n d)
   pub walked-unique : (n k : ℕ) (d : Desk) → Walked n d k → k ≡ walkedIn n d

@@ -4,7 +4,7 @@ use mathlib.Core.List.{List, [], _∷_}
 use Rattle.answer.specs.Answer.{Answer, refused, given}
 use Rattle.matching.specs.declared.Booking.{Booking}
 use Rattle.desk.specs.declared.Desk.{Desk}
-use Rattle.desk.specs.Moments.{fresh, liveCount}
+use Rattle.desk.specs.Moments.{fresh}
 use Rattle.reply.specs.Numbers.{Says}
 use Rattle.desk.specs.Calls.{Told, packetOf, waitOf, secondOf, addOf, cancelOf, askOf}
 
@@ -42,7 +42,7 @@ outcome second d = onlyDesk (secondOf d)
 outcome (add b) d = toldToo (addOf b d)
 outcome (cancel slot) d = onlyDesk (cancelOf slot d)
 outcome (ask slot) d = saysOnly d (askOf slot d)
-outcome live d = given (record { tells = liveCount d ∷ []; desk = d })
+outcome live d = given (record { tells = d .live ∷ []; desk = d })  -- the number that is kept (02, #106)
 
 -- 'desk … unchanged' where it is refused
 abbrev pub left : Desk → Answer Done → Desk

@@ -8,7 +8,7 @@ use Rattle.label.specs.Packet.{labelIn}
 use Rattle.matching.specs.declared.Booking.{Booking}
 use Rattle.rule.specs.declared.Copy.the-variants.{Waiting}
 use Rattle.desk.specs.declared.Desk.{Desk}
-use Rattle.desk.specs.Moments.{fresh, clockedAt, moment, walk, passTo, liveCount}
+use Rattle.desk.specs.Moments.{fresh, clockedAt, moment, walk, passTo}
 use Rattle.desk.specs.Calls.{withLabel, withTimer, packetOf}
 use Rattle.desk.proofs.Fast.{fastTo, fast-pass}
 use Rattle.items.specs.Items as item
@@ -90,11 +90,11 @@ first-left : packetLeft first-item booked ≡ recording
 unfolding packetLeft
 first-left = rw first-heard
 
-first-told : packetTold first-item booked ≡ packetLine 0 (liveCount recording)
+first-told : packetTold first-item booked ≡ packetLine 0 (recording .live)
 unfolding packetTold packetLeft
 first-told = rw first-heard
 
-live-then : packetLine 0 (liveCount recording) ≡ 80 ∷ 32 ∷ 48 ∷ 32 ∷ 49 ∷ 10 ∷ []
+live-then : packetLine 0 (recording .live) ≡ 80 ∷ 32 ∷ 48 ∷ 32 ∷ 49 ∷ 10 ∷ []
 unfolding rules
 live-then = refl
 

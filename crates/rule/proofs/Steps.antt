@@ -8,7 +8,7 @@ use lib.ListN.{getD}
 use Rattle.answer.proofs.Cases.{by-test, both-true}
 use Rattle.places.specs.Places.{noLabel}
 use Rattle.matching.specs.Matching.{openAt, endedAt, matches, sightOf}
-use Rattle.rule.specs.Rule.{recordingAt, clockOr, notLive, fromPrepared, movesOr, fromRecording, fromRunningOn, held, nextCopy, nextTimer}
+use Rattle.rule.specs.Rule.{recordingAt, clockOr, notLive, fromPrepared, movesOr, fromRecording, fromRunningOn, held, nextCopy, nextTimer, liveTimer}
 use Rattle.matching.specs.Look.{named}
 use Rattle.places.specs.declared.Stamped.{Stamped}
 use Rattle.matching.specs.declared.Booking.{Booking}
@@ -91,3 +91,6 @@ free-copy s ls b c e = rw (not-held c e)
 pub free-stays : (s : ℕ) (ls : List Stamped) (t : Timer) → held (t .copy) ≡ false → nextTimer s ls t ≡ t
 unfolding nextTimer
 free-stays s ls t e = ap (λ c. record { booking = t .booking; copy = c }) (free-copy s ls (t .booking) (t .copy) e)
+
+pub free-not-live : (t : Timer) → held (t .copy) ≡ false → liveTimer t ≡ false
+free-not-live t e = rw (not-held (t .copy) e)

@@ -6,7 +6,7 @@ use Rattle.items.specs.Pieces.{leftOver}
 use Rattle.sheet.specs.Laws.{Laws}
 use Rattle.sheet.specs.Pieces.{blank, fedBy, outAfter, closedBy, outClosed}
 use Rattle.sheet.proofs.Machine.{pieces, settled}
-use Rattle.sheet.proofs.Small.{slot-inside, small-refusal, small-answer, live-inside, timers-kept}
+use Rattle.sheet.proofs.Small.{slot-inside, small-refusal, small-answer, live-inside, timers-kept, full-count}
 
 pub laws : Laws
 laws = record {
@@ -17,6 +17,7 @@ laws = record {
   small-answer = small-answer;
   small-count = λ d l. omega (arith, live-inside d);
   timers-kept = timers-kept;
+  full-count = full-count;
   new-unique = equation blank;
   feed-unique =
       λ s piece out at.

@@ -12,7 +12,6 @@ use Rattle.answer.specs.Text.{space, lineFeed, digit}
 use Rattle.answer.proofs.Texts.{decimal-short, one-digit, last-digit, more-digits}
 use Rattle.desk.specs.declared.Desk.{Desk}
 use Rattle.desk.specs.Calls.{addOf}
-use Rattle.desk.specs.Moments.{liveCount}
 use Rattle.desk.specs.Numbers.{saidBy}
 use Rattle.items.specs.declared.Split.{Split}
 use Rattle.items.specs.declared.Found.{Found}
@@ -51,7 +50,7 @@ packet-short a n = omega (arith, two-digits a, last-short n, length-append (deci
 item-short : (i : Item) (d : Desk) → length (itemTold i d) ≤ longest
 unfolding timerTold packetTold
 item-short (timer i) d = timer-short (saidBy (addOf (bookingIn i) d))
-item-short (packet i) d = packet-short (number (packetIn i d)) (liveCount (packetLeft i d))
+item-short (packet i) d = packet-short (number (packetIn i d)) (packetLeft i d .live)
 
 -- what is found with some bytes prints one line at most
 pub found-short : (f : Found) (held : List ℕ) (d : Desk) → length (linesOf (itemsFound f held) d) ≤ longest
@@ -90,8 +89,8 @@ unfolding endTold
 end-short ended s = go (wholeAt ended (s .split))
   where
     go : (w : Bool) → length (lastLine w (s .desk)) ≤ longest
-    go true = omega (arith, last-short (liveCount (s .desk)))
-    go false = omega (arith, last-short (liveCount (s .desk)))
+    go true = omega (arith, last-short (s .desk .live))
+    go false = omega (arith, last-short (s .desk .live))
 
 -- room for n times eight, tested so that nothing wraps
 pub room-test : (room at n : ℕ) → at ≤ room → leb n ((room - at) / 8) ≡ leb (at + longest * n) room

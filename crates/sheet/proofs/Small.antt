@@ -1,4 +1,4 @@
--- No number that a sheet prints is above 17.
+-- No number that a sheet prints is above 17, and the count is that of all slots.
 use Prim.Native.Nat.{ℕ, zero, suc, _+_, _-_, _≤_, _<_}
 use mathlib.Core.Path.{_≡_, refl, _∙_}
 use mathlib.Core.Bool.{Bool, true, false, cond, not, _||_, true≢false}
@@ -22,10 +22,12 @@ use Rattle.rule.specs.declared.Timer.{Timer}
 use Rattle.desk.specs.declared.Desk.{Desk}
 use Rattle.sixteen.specs.Sixteen.{isNowhere, slotOf}
 use Rattle.desk.specs.Calls.{Told, tunerRows, labelRows, hearingAt, packetOf, roomIn, withLabel, withTimer, addRows, addOf}
-use Rattle.desk.specs.Moments.{moment, clockedAt, nextSecond, walk, passTo, liveCount}
+use Rattle.desk.specs.Moments.{fresh, moment, clockedAt, nextSecond, walk, passTo, liveCount}
 use Rattle.desk.specs.Numbers.{leftBy}
+use Rattle.desk.proofs.Settle.{Counted, moment-counted}
+use Rattle.items.specs.Items.{Item, timer, packet}
 use Rattle.answer.specs.Bytes.{numberOf}
-use Rattle.sheet.specs.Sheet.{bookingIn, timerLeft, packetLeft}
+use Rattle.sheet.specs.Sheet.{bookingIn, timerLeft, packetLeft, itemLeft, deskLeft}
 
 -- ── slots ──────────────────────────────────────────────────────────────────────────────────────────────────────────
 -- what is found is in the list
@@ -105,6 +107,33 @@ pub live-inside : (d : Desk) → liveCount d ≤ length (d .timers)
 unfolding liveCount
 live-inside d = count-length liveTimer (d .timers)
 
+-- ── what an item keeps ─────────────────────────────────────────────────────────────────────────────────────────────
+-- what holds of the desk before, and of the desk that a call leaves where it is accepted, holds afterwards
+module _ (P : Desk → Type 0) (d : Desk) (p : P d) where
+  add-kept : (b : Booking) → P (moment (withTimer (slotOf (roomIn d)) (record { booking = b; copy = Waiting }) d)) → P (leftBy d (addOf b d))
+  unfolding addOf
+  add-kept b q = go (windowIn (b .pil) (b .year))
+    where
+      added : Told
+      added = record { says = slotOf (roomIn d); desk = moment (withTimer (slotOf (roomIn d)) (record { booking = b; copy = Waiting }) d) }
+
+      go : (w : Answer Window) → P (leftBy d (andThen w (λ v. firstOf (addRows b d v) added)))
+      go (refused k) = p
+      go (given w) = first-holds (λ a. P (leftBy d a)) added (addRows b d w) (p, (p, (p, (p, tt)))) (λ none. q)
+
+  packet-kept : (tuner s : ℕ) (bytes : List ℕ) → ((l : Label) → P (hearingAt tuner s l d)) → P (after d (packetOf tuner s bytes d))
+  unfolding packetOf
+  packet-kept tuner s bytes q =
+      first-holds (λ x. P (after d (andThen x (λ y. andThen (readingOf y) heard)))) bytes (tunerRows d tuner s) (p, (p, (p, tt)))
+      (λ none. read (readingOf bytes))
+    where
+      heard : Label → Answer Desk
+      heard l = firstOf (labelRows l) (hearingAt tuner s l d)
+
+      read : (a : Answer Label) → P (after d (andThen a heard))
+      read (refused k) = p
+      read (given l) = first-holds (λ a. P (after d a)) (hearingAt tuner s l d) (labelRows l) (p, tt) (λ none. q l)
+
 -- ── the desk keeps its sixteen timers ──────────────────────────────────────────────────────────────────────────────
 moment-kept : (d : Desk) → length (moment d .timers) ≡ length (d .timers)
 unfolding moment
@@ -115,42 +144,30 @@ unfolding walk nextSecond
 walk-kept zero d = refl
 walk-kept (suc n) d = walk-kept n (nextSecond d) ∙ moment-kept (clockedAt (suc (d .clock)) d)
 
--- an answer's desk has as many timers as the desk before
-abbrev Told-kept : Desk → Answer Told → Type 0
-Told-kept d a = length (leftBy d a .timers) ≡ length (d .timers)
-
-abbrev Desk-kept : Desk → Answer Desk → Type 0
-Desk-kept d a = length (after d a .timers) ≡ length (d .timers)
-
-add-kept : (b : Booking) (d : Desk) → Told-kept d (addOf b d)
-unfolding addOf
-add-kept b d = go (windowIn (b .pil) (b .year))
-  where
-    t : Timer
-    t = record { booking = b; copy = Waiting }
-
-    go : (w : Answer Window) →
-        Told-kept d (andThen w (λ v. firstOf (addRows b d v) (record { says = slotOf (roomIn d); desk = moment (withTimer (slotOf (roomIn d)) t d) })))
-    go (refused k) = refl
-    go (given w) =
-        first-holds (Told-kept d) _ (addRows b d w) (refl, (refl, (refl, (refl, tt))))
-        (λ none. moment-kept (withTimer (slotOf (roomIn d)) t d) ∙ length-set (d .timers) (slotOf (roomIn d)) t)
-
-packet-kept : (tuner s : ℕ) (bytes : List ℕ) (d : Desk) → Desk-kept d (packetOf tuner s bytes d)
-unfolding packetOf hearingAt passTo
-packet-kept tuner s bytes d =
-    first-holds (λ x. Desk-kept d (andThen x (λ p. andThen (readingOf p) heard))) bytes (tunerRows d tuner s) (refl, (refl, (refl, tt)))
-    (λ none. read (readingOf bytes))
-  where
-    heard : Label → Answer Desk
-    heard l = firstOf (labelRows l) (hearingAt tuner s l d)
-
-    read : (a : Answer Label) → Desk-kept d (andThen a heard)
-    read (refused k) = refl
-    read (given l) =
-        first-holds (Desk-kept d) _ (labelRows l) (refl, tt)
-        (λ none. moment-kept (withLabel tuner l (passTo s d)) ∙ walk-kept (s - d .clock) d)
-
 pub timers-kept : (item : List ℕ) (d : Desk) → (length (timerLeft item d .timers) ≡ length (d .timers)) × (length (packetLeft item d .timers) ≡ length (d .timers))
-unfolding timerLeft packetLeft
-timers-kept item d = (add-kept (bookingIn item) d, packet-kept (getD item 4 0) (numberOf (take 4 item)) (drop 5 item) d)
+unfolding timerLeft packetLeft hearingAt passTo
+timers-kept item d =
+    let b = bookingIn item in
+    let slot = slotOf (roomIn d) in
+    let t : Timer = record { booking = b; copy = Waiting } in
+    let tuner = getD item 4 0 in
+    let s = numberOf (take 4 item) in
+    let P : Desk → Type 0 = λ e. length (e .timers) ≡ length (d .timers) in (
+      add-kept P d refl b (moment-kept (withTimer slot t d) ∙ length-set (d .timers) slot t),
+      packet-kept P d refl tuner s (drop 5 item) (λ l. moment-kept (withLabel tuner l (passTo s d)) ∙ walk-kept (s - d .clock) d),
+    )
+
+-- ── and its count of those that are live ───────────────────────────────────────────────────────────────────────────
+item-counted : (i : Item) (d : Desk) → Counted d → Counted (itemLeft i d)
+unfolding timerLeft packetLeft hearingAt
+item-counted (timer i) d p = add-kept Counted d p (bookingIn i) (moment-counted _)
+item-counted (packet i) d p = packet-kept Counted d p (getD i 4 0) (numberOf (take 4 i)) (drop 5 i) (λ l. moment-counted _)
+
+items-counted : (is : List Item) (d : Desk) → Counted d → Counted (deskLeft is d)
+unfolding deskLeft
+items-counted [] d p = p
+items-counted (i ∷ is) d p = items-counted is (itemLeft i d) (item-counted i d p)
+
+pub full-count : (is : List Item) → Counted (deskLeft is fresh)
+unfolding liveCount
+full-count is = items-counted is fresh refl

@@ -9,12 +9,13 @@ use Rattle.answer.specs.Lists.{joined}
 use Rattle.matching.specs.declared.Booking.{Booking}
 use Rattle.desk.specs.declared.Desk.{Desk}
 use Rattle.desk.specs.Calls.{Told, packetOf, addOf}
-use Rattle.desk.specs.Moments.{liveCount}
+use Rattle.desk.specs.Moments.{fresh, liveCount}
+use Rattle.items.specs.Items.{Item}
 use Rattle.items.specs.Pieces.{leftOver}
 use Rattle.sheet.specs.declared.Sheet.{Sheet}
 use Rattle.sheet.specs.declared.Fed.{Fed}
 use Rattle.sheet.specs.declared.Closed.{Closed}
-use Rattle.sheet.specs.Sheet.{brokenLine, timerLeft, packetLeft, sheetOf}
+use Rattle.sheet.specs.Sheet.{brokenLine, timerLeft, packetLeft, deskLeft, sheetOf}
 use Rattle.sheet.specs.Pieces.{blank, afterPiece, pieceTold, endTold, fedBy, outAfter, closedBy, outClosed}
 
 -- what pieces print one after the other, from a sheet on, and then the input's end
@@ -33,6 +34,8 @@ pub record Laws : Type 0 where
   pub small-answer : (tuner t : ℕ) (bytes : List ℕ) (d : Desk) → number (packetOf tuner t bytes d) ≤ 16
   pub small-count : (d : Desk) → length (d .timers) ≡ 16 → liveCount d ≤ 16
   pub timers-kept : (item : List ℕ) (d : Desk) → (length (timerLeft item d .timers) ≡ length (d .timers)) × (length (packetLeft item d .timers) ≡ length (d .timers))
+  -- the number that is kept with the desk, which the lines tell, is the full count after every item of a sheet (02, #106)
+  pub full-count : (is : List Item) → deskLeft is fresh .live ≡ liveCount (deskLeft is fresh)
   -- each call's promise allows one outcome
   pub new-unique : Unique (λ (r : Sheet). r ≡ blank)
   pub feed-unique : (s : Sheet) (piece out : List ℕ) (at : ℕ) →

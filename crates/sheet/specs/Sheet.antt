@@ -9,7 +9,7 @@ use Rattle.answer.specs.Text.{space, lineFeed, decimalIn}
 use Rattle.items.specs.Items.{Item, timer, packet, itemsOf}
 use Rattle.matching.specs.declared.Booking.{Booking}
 use Rattle.desk.specs.declared.Desk.{Desk}
-use Rattle.desk.specs.Moments.{fresh, liveCount}
+use Rattle.desk.specs.Moments.{fresh}
 use Rattle.desk.specs.Calls.{packetOf, addOf}
 use Rattle.desk.specs.Numbers.{saidBy, leftBy}
 
@@ -23,17 +23,18 @@ abbrev pub timerLine : Answer ℕ → List ℕ
 timerLine (given slot) = 84 ∷ space ∷ decimal slot ++ (lineFeed ∷ [])
 timerLine (refused n) = 84 ∷ space ∷ 33 ∷ decimal n ++ (lineFeed ∷ [])
 
--- '`P answer live` per packet (0 or the refusal; the count of live timers after it)'
+-- '`P answer live` per packet (0 or the refusal; the count of live timers after it)', here and below as the desk keeps it (02, #106; law
+-- `full-count`)
 abbrev pub packetLine : ℕ → ℕ → List ℕ
 packetLine answer live = 80 ∷ space ∷ decimal answer ++ (space ∷ decimal live ++ (lineFeed ∷ []))
 
 -- 'then `Z live`'
 abbrev pub endLine : Desk → List ℕ
-endLine d = 90 ∷ space ∷ decimal (liveCount d) ++ (lineFeed ∷ [])
+endLine d = 90 ∷ space ∷ decimal (d .live) ++ (lineFeed ∷ [])
 
 -- '`X live` in place of `Z live`'
 abbrev pub brokenLine : Desk → List ℕ
-brokenLine d = 88 ∷ space ∷ decimal (liveCount d) ++ (lineFeed ∷ [])
+brokenLine d = 88 ∷ space ∷ decimal (d .live) ++ (lineFeed ∷ [])
 
 -- ── items ──────────────────────────────────────────────────────────────────────────────────────────────────────────
 -- '6 bytes each: CNI 2, PIL 3, year 1'; the entry 'grows by tuner (1 byte) and length (2 bytes)' (02, #105)
@@ -60,7 +61,7 @@ unfoldable pub packetLeft : List ℕ → Desk → Desk
 packetLeft item d = after d (packetIn item d)
 
 unfoldable pub packetTold : List ℕ → Desk → List ℕ
-packetTold item d = packetLine (number (packetIn item d)) (liveCount (packetLeft item d))
+packetTold item d = packetLine (number (packetIn item d)) (packetLeft item d .live)
 
 -- what an item prints, and the desk that it leaves
 abbrev pub itemTold : Item → Desk → List ℕ

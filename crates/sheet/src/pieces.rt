@@ -7,7 +7,6 @@ ghost use lib.Dec.{leb};
 ghost use lib.ListN.{length};
 ghost use lib.Seq.{sets};
 ghost use Rattle.desk.specs.declared.Desk.{Desk};
-ghost use Rattle.desk.specs.Moments.{liveCount};
 ghost use Rattle.answer.specs.Text.{space, lineFeed};
 ghost use Rattle.items.specs.Pieces.{leftOver};
 ghost use Rattle.sheet.specs.Sheet.{decimal, lastLine};
@@ -32,7 +31,7 @@ fn has_room(room: usize, at: usize, n: usize) -> bool
 
 // 'Input that is short, a count included, or has a byte left over ends with `X live` in place of `Z live`.'
 fn letter(whole: bool) -> u8
-    ensures { λ r. ⌜ ((d : Desk) → lastLine whole d ≡ r ∷ space ∷ decimal (liveCount d) ++ (lineFeed ∷ [])) ⌝ }
+    ensures { λ r. ⌜ ((d : Desk) → lastLine whole d ≡ r ∷ space ∷ decimal (d .live) ++ (lineFeed ∷ [])) ⌝ }
 {
     if whole {
         return b'Z';

@@ -36,3 +36,12 @@ module _ {A : Type 0} (f : A → A) where
   -- one turn that leaves the element at n as it is
   pub mapTo-kept : (n : ℕ) (xs ys : List A) (d : A) → n < length xs → ys ≡ mapTo n xs → f (getD ys n d) ≡ getD ys n d → ys ≡ mapTo (n + 1) xs
   mapTo-kept n xs ys d h e q = sym (set-getD ys n d) ∙ mapTo-more n xs ys d (getD ys n d) h e (sym q)
+
+  getD-mapped : (n : ℕ) (xs : List A) (d : A) → n < length xs → getD (map f xs) n d ≡ f (getD xs n d)
+  getD-mapped n [] d h = absurd (not-suc-le-zero h)
+  getD-mapped zero (x ∷ xs) d h = refl
+  getD-mapped (suc n) (x ∷ xs) d h = getD-mapped n xs d (le-of-suc-le-suc h)
+
+  -- the element that a turn makes is that of the whole list's
+  pub mapTo-next : (n : ℕ) (xs ys : List A) (d v : A) → n < length xs → ys ≡ mapTo n xs → v ≡ f (getD ys n d) → v ≡ getD (map f xs) n d
+  mapTo-next n xs ys d v h e q = rw (q, e, mapTo-at, getD-mapped n xs d h)

@@ -15,7 +15,6 @@ laws = record {
   put-timer-unique = λ ts slot t. equation (set ts slot t);
   any-holds-unique = λ s ts b. equation (some (λ t. active s t && sameBooking b (t .booking)) ts);
   room-unique = λ s ts m n p q. equation (slotOf (roomAt s ts)) m n (p .0) (q .0);
-  all-next-unique = λ s ls ts. equation (map (nextTimer s ls) ts);
-  count-live-unique = λ ts. equation (count liveTimer ts);
+  all-next-unique = λ s ls ts. let next = map (nextTimer s ls) ts in equation (record { live = count liveTimer next; timers = next });
   any-by-labels-unique = λ ts. equation (some byLabelsTimer ts);
 }

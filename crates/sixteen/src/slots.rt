@@ -7,6 +7,7 @@ ghost use lib.ListN.{getD, set};
 ghost use Rattle.answer.specs.Lists.{some, count};
 ghost use Rattle.rule.specs.Rule.{byLabelsTimer, liveTimer, nextTimer};
 ghost use Rattle.sixteen.specs.Sixteen.{noTimer, active, sameBooking, roomAt, isNowhere, slotOf};
+use crate::GoneOn;
 use matching::Booking;
 use matching::windows::ended_at;
 use places::Stamped;
@@ -119,11 +120,13 @@ pub fn room(s: u32, timers: [Timer; 16]) -> usize
     16
 }
 
-// 'At each moment every timer's copy goes on.' A free slot stays free, so there is nothing to do for it.
-pub fn all_next(s: u32, places: [Stamped; 16], timers: [Timer; 16]) -> [Timer; 16]
-    ensures { λ r. ⌜ r ≡ map (nextTimer s places) timers ⌝ }
+// 'At each moment every timer's copy goes on', and those that are live then are counted on the way. A free slot stays free, so there is
+// nothing to do for it, and nothing to count.
+pub fn all_next(s: u32, places: [Stamped; 16], timers: [Timer; 16]) -> GoneOn
+    ensures { λ r. ⌜ (let next = map (nextTimer s places) timers in r ≡ record { live = count liveTimer next; timers = next }) ⌝ }
 {
     let mut out = timers;
+    let mut live: u32 = 0;
     let mut i: usize = 0;
     while i < 16 {
         let t = out[i];
@@ -132,26 +135,13 @@ pub fn all_next(s: u32, places: [Stamped; 16], timers: [Timer; 16]) -> [Timer; 1
         if held {
             let next = next_timer(s, places, t);
             out[i] = next;
+            let on = next.copy;
+            let counts = is_live(on);
+            live += counts as u32;
         }
         i += 1;
     }
-    out
-}
-
-// 'The count of live timers.'
-pub fn count_live(timers: [Timer; 16]) -> u32
-    ensures { λ r. ⌜ r ≡ count liveTimer timers ⌝ }
-{
-    let mut n: u32 = 0;
-    let mut i: usize = 0;
-    while i < 16 {
-        let t = timers[i];
-        let c = t.copy;
-        let live = is_live(c);
-        n += live as u32;
-        i += 1;
-    }
-    n
+    GoneOn { live, timers: out }
 }
 
 // 'Recording or running on.'

@@ -3,12 +3,14 @@
 //! whether anything stands, and, for faults and for counting, what a copy has been.
 mod clock;
 mod minute;
+mod panel;
 
 use crate::calendar::END;
 use crate::calls::{Machine, State, Timer};
 use crate::faults::{self, Fault};
 use crate::paper::{self, Label};
 use minute::Past;
+use panel::Turn;
 
 const STANDS: u32 = 5;
 const RUNS_ON: u32 = 30;
@@ -89,6 +91,9 @@ pub struct Desk {
     walking: bool,
     /// The timer that was cancelled last.
     cancelled: Option<Held>,
+    /// The present call, and the number that faults keep.
+    turn: Turn,
+    kept: u8,
 }
 
 impl Desk {
@@ -110,6 +115,8 @@ impl Desk {
             obeyed: 0,
             walking: false,
             cancelled: None,
+            turn: Turn::Packet,
+            kept: 0,
         }
     }
 
@@ -302,6 +309,7 @@ impl Desk {
     }
 
     fn moment(&mut self) {
+        let before = self.before();
         self.silent = self.nothing_stands();
         for slot in 0..16 {
             if let Some(held) = &self.slots[slot] {
@@ -320,6 +328,7 @@ impl Desk {
                 (held.copy, held.past) = (copy, past);
             }
         }
+        self.keep(before);
     }
 
     fn live_copies(&self) -> u8 {
@@ -515,16 +524,8 @@ impl Desk {
     fn held(&self, slot: u8) -> Result<Held, u8> {
         self.slots.get(slot as usize).copied().flatten().ok_or(15)
     }
-}
 
-impl Default for Desk {
-    fn default() -> Desk {
-        Desk::new()
-    }
-}
-
-impl Machine for Desk {
-    fn packet(&mut self, time: u32, tuner: u8, bytes: &[u8]) -> u8 {
+    fn packet_answer(&mut self, time: u32, tuner: u8, bytes: &[u8]) -> u8 {
         let label = match self.accepts(time, tuner, bytes) {
             Ok(label) => label,
             Err(refusal) => {
@@ -565,7 +566,7 @@ impl Machine for Desk {
         0
     }
 
-    fn wait(&mut self, time: u32) -> Result<u32, u8> {
+    fn wait_answer(&mut self, time: u32) -> Result<u32, u8> {
         if self.has(Fault::WaitPresentRefused) && time == self.clock {
             return Err(9);
         }
@@ -575,8 +576,8 @@ impl Machine for Desk {
         }
     }
 
-    fn add(&mut self, cni: u16, pil: u32, year: u8, tuner: u8, length: u16) -> Result<u8, u8> {
-        let timer = Timer { cni, pil, year, tuner, length };
+    fn add_answer(&mut self, timer: Timer) -> Result<u8, u8> {
+        let Timer { cni, pil, year, tuner, length } = timer;
         if self.has(Fault::RangeBeforeReal) && self.out_of_range(tuner, length) {
             return Err(17);
         }
@@ -594,7 +595,7 @@ impl Machine for Desk {
         Ok(slot as u8)
     }
 
-    fn cancel(&mut self, slot: u8) -> u8 {
+    fn cancel_answer(&mut self, slot: u8) -> u8 {
         match self.held(slot) {
             Err(refusal) => refusal,
             Ok(held) if self.has(Fault::CancelRefusesEnded) && self.ended(&held) => 15,
@@ -609,6 +610,38 @@ impl Machine for Desk {
                 0
             }
         }
+    }
+}
+
+impl Default for Desk {
+    fn default() -> Desk {
+        Desk::new()
+    }
+}
+
+impl Machine for Desk {
+    fn packet(&mut self, time: u32, tuner: u8, bytes: &[u8]) -> u8 {
+        self.turn = Turn::Packet;
+        let number = self.packet_answer(time, tuner, bytes);
+        self.told(number)
+    }
+
+    fn wait(&mut self, time: u32) -> Result<u32, u8> {
+        self.turn = Turn::Wait;
+        let answer = self.wait_answer(time);
+        self.gives(answer)
+    }
+
+    fn add(&mut self, cni: u16, pil: u32, year: u8, tuner: u8, length: u16) -> Result<u8, u8> {
+        self.turn = Turn::Add;
+        let answer = self.add_answer(Timer { cni, pil, year, tuner, length });
+        self.gives(answer)
+    }
+
+    fn cancel(&mut self, slot: u8) -> u8 {
+        self.turn = Turn::Cancel;
+        let number = self.cancel_answer(slot);
+        self.told(number)
     }
 
     fn ask(&self, slot: u8) -> Result<State, u8> {
@@ -634,7 +667,7 @@ impl Machine for Desk {
     }
 
     fn live(&self) -> u8 {
-        self.live_copies()
+        self.number()
     }
 }
 

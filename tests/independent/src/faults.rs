@@ -113,6 +113,12 @@ faults! {
     WalkedClock: "a wait walks on while the clock records",
     HighestPlace: "the highest place comes first",
     LciBeforeTuner: "places are ordered by LCI, then tuner",
+    CountThroughCancel: "a copy that is cancelled is still counted",
+    CountThroughAdd: "a copy that is live as its timer is added is not counted",
+    CountThroughWait: "a wait leaves the count as it was",
+    CountBeforeMoment: "the live timers are counted before their copies go on",
+    CountNeverFalls: "the count never falls",
+    CountNoughtIfRefused: "a refused call sets the count to 0",
     SecondCopy: "a second match is a second copy",
     PreparedIsLive: "prepared counts as live",
     RitEndsAtOnce: "RI/T ends a recording at once",
@@ -229,6 +235,9 @@ impl Fault {
                 | ClockSaysRecording
                 | ClockKeptOverWait
                 | WalkedClock
+                | CountThroughCancel
+                | CountThroughAdd
+                | CountThroughWait
                 | EndedBeforeRange
                 | TwinBeforeEnded
                 | EndedTaken
