@@ -76,8 +76,8 @@ fn second(d: Desk) -> Said {
     saying(a.number(), 0, next)
 }
 
-// A panel that reads the count so often, and what its readings add up to. A second passes each time that this is `sum`, so that no
-// reading can stand for the next one.
+// A panel that reads the count so often, and what its readings add up to. A second passes each time that this is `sum`: the count may
+// change between two readings, and is not worked out once for all of them.
 fn panel(d: Desk, often: u32, sum: u16) -> Said {
     let passing = sum as u32;
     let mut desk = d;

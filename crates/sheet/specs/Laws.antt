@@ -32,7 +32,7 @@ pub record Laws : Type 0 where
   pub small-slot : (b : Booking) (d : Desk) (t : Told) → length (d .timers) ≡ 16 → addOf b d ≡ given t → t .says < 16
   pub small-refusal : (b : Booking) (d : Desk) → number (addOf b d) ≤ 17
   pub small-answer : (tuner t : ℕ) (bytes : List ℕ) (d : Desk) → number (packetOf tuner t bytes d) ≤ 16
-  pub small-count : (d : Desk) → length (d .timers) ≡ 16 → liveCount d ≤ 16
+  pub small-count : (d : Desk) → length (d .timers) ≡ 16 → d .live ≡ liveCount d → d .live ≤ 16
   pub timers-kept : (item : List ℕ) (d : Desk) → (length (timerLeft item d .timers) ≡ length (d .timers)) × (length (packetLeft item d .timers) ≡ length (d .timers))
   -- the number that is kept with the desk, which the lines tell, is the full count after every item of a sheet (02, #106)
   pub full-count : (is : List Item) → deskLeft is fresh .live ≡ liveCount (deskLeft is fresh)

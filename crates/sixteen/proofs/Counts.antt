@@ -21,10 +21,10 @@ bit-le true = omega arith
 bit-le false = omega arith
 
 module _ {A : Type 0} (f : A → Bool) (xs : List A) (i : ℕ) where
-  pub count-more : (d : A) {b : Bool} → i < length xs → b ≡ f (getD xs i d) → count f (drop i xs) ≡ boolByte b + count f (drop (i + 1) xs)
+  count-more : (d : A) {b : Bool} → i < length xs → b ≡ f (getD xs i d) → count f (drop i xs) ≡ boolByte b + count f (drop (i + 1) xs)
   count-more d {b} h e = rw (drop-cons xs i d h, bit b, ← e, add-one i)
 
-  pub count-none : length xs ≤ i → count f (drop i xs) ≡ 0
+  count-none : length xs ≤ i → count f (drop i xs) ≡ 0
   count-none h = rw (drop-of-length-le xs h)
 
 -- n are counted before i, of those that f makes of xs; one turn, in which v is made at i, and counted where b says so
@@ -36,7 +36,7 @@ module _ {A : Type 0} (f : A → A) (g : A → Bool) (xs : List A) where
       b ≡ g v → CountedTo (n + boolByte b) (i + 1)
   mapped-more n i ys d v {b} h k e q c =
       let l : i < length (map f xs) = omega (arith, length-map xs f) in
-      k ∙ ap (λ x. n + x) (count-more g (map f xs) i d l (c ∙ ap g (mapTo-next f i xs ys d v h e q))) ∙ sym (add-assoc n (boolByte b) _)
+      k ∙ ap (λ x. n + x) (count-more g (map f xs) i (f d) l (c ∙ ap g (mapTo-next f i xs ys d v e q))) ∙ sym (add-assoc n (boolByte b) _)
 
   -- a turn that leaves the element at i as it is, and has none to count
   pub mapped-kept : (n i : ℕ) (ys : List A) (d : A) → i < length xs → CountedTo n i → ys ≡ mapTo f i xs → f (getD ys i d) ≡ getD ys i d →

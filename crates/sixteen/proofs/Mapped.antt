@@ -2,7 +2,7 @@
 use Prim.Native.Nat.{ℕ, zero, suc, _+_, _≤_, _<_}
 use mathlib.Core.Path.{_≡_, refl, sym, ap, _∙_}
 use mathlib.Core.List.{List, [], _∷_, map}
-use lib.ListN.{length, getD, set}
+use lib.ListN.{length, getD, set, List·getD-map}
 use lib.Seq.{set-getD}
 use native.Mathlib.Numerals.{add-one}
 use native.Mathlib.Nat.{not-suc-le-zero, le-of-suc-le-suc}
@@ -37,11 +37,6 @@ module _ {A : Type 0} (f : A → A) where
   pub mapTo-kept : (n : ℕ) (xs ys : List A) (d : A) → n < length xs → ys ≡ mapTo n xs → f (getD ys n d) ≡ getD ys n d → ys ≡ mapTo (n + 1) xs
   mapTo-kept n xs ys d h e q = sym (set-getD ys n d) ∙ mapTo-more n xs ys d (getD ys n d) h e (sym q)
 
-  getD-mapped : (n : ℕ) (xs : List A) (d : A) → n < length xs → getD (map f xs) n d ≡ f (getD xs n d)
-  getD-mapped n [] d h = absurd (not-suc-le-zero h)
-  getD-mapped zero (x ∷ xs) d h = refl
-  getD-mapped (suc n) (x ∷ xs) d h = getD-mapped n xs d (le-of-suc-le-suc h)
-
   -- the element that a turn makes is that of the whole list's
-  pub mapTo-next : (n : ℕ) (xs ys : List A) (d v : A) → n < length xs → ys ≡ mapTo n xs → v ≡ f (getD ys n d) → v ≡ getD (map f xs) n d
-  mapTo-next n xs ys d v h e q = rw (q, e, mapTo-at, getD-mapped n xs d h)
+  pub mapTo-next : (n : ℕ) (xs ys : List A) (d v : A) → ys ≡ mapTo n xs → v ≡ f (getD ys n d) → v ≡ getD (map f xs) n (f d)
+  mapTo-next n xs ys d v e q = rw (q, e, mapTo-at, List·getD-map f xs n d)
