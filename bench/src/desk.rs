@@ -37,6 +37,8 @@ struct Timer {
     window: Window,
     /// The places of the home tuner.
     home: u16,
+    /// In seconds.
+    length: u32,
     /// The first second that is not by the clock any more: the length has passed, or the window has closed.
     ends: u32,
     /// Places whose standing label has this CNI and PIL, and those of them with PRF 0.
@@ -46,6 +48,17 @@ struct Timer {
 }
 
 impl Timer {
+    /// Another CNI and PIL in the year that has this window; which labels are equal is to be found anew.
+    fn book(&mut self, cni: u16, pil: u32, year: u8, window: Window) {
+        (self.cni, self.pil, self.year, self.window) = (cni, pil, year, window);
+        self.ends = window.closes.min(window.announced + self.length);
+        (self.equal, self.begun) = (0, 0);
+    }
+
+    fn same(&self, cni: u16, pil: u32, year: u8) -> bool {
+        (self.pil, self.cni, self.year) == (pil, cni, year)
+    }
+
     fn hear(&mut self, place: usize, label: Option<&Label>) {
         let bit = 1 << place;
         self.equal &= !bit;
@@ -109,6 +122,10 @@ impl Default for Desk {
     }
 }
 
+fn month(pil: u32) -> u32 {
+    pil >> 11 & 15
+}
+
 fn bits(mask: u16) -> impl Iterator<Item = usize> {
     (0..16).filter(move |place| mask >> place & 1 == 1)
 }
@@ -131,8 +148,11 @@ impl Desk {
             Ok(label) => label,
             Err(refusal) => return refusal,
         };
-        self.pass(time);
         let at = 4 * tuner as usize + label.lci as usize;
+        if label.luf {
+            return self.update(time, at, label).err().unwrap_or(0);
+        }
+        self.pass(time);
         let stands = self.standing >> at & 1 == 1;
         let place = &mut self.places[at];
         if label.pil == CONTINUATION {
@@ -147,6 +167,34 @@ impl Desk {
             self.moment();
         }
         0
+    }
+
+    /// A label that the programme at a place goes on under: the timer that the label there matches takes it, if it is another one.
+    fn update(&mut self, time: u32, at: usize, label: Label) -> Result<(), u8> {
+        let Place { label: old, stamp } = self.places[at];
+        let stands = self.standing >> at & 1 == 1 && time - stamp <= STANDS;
+        let matches = |timer: &Timer| timer.equal >> at & 1 == 1 && (timer.window.opens..timer.window.closes).contains(&time);
+        let slot = self.slots.iter().position(|slot| stands && slot.as_ref().map_or(false, matches)).ok_or(7)?;
+        if (label.cni, label.pil) == (old.cni, old.pil) {
+            self.pass(time);
+            return Ok(());
+        }
+        let from = self.slots[slot].as_ref().map_or(0, |timer| timer.year);
+        let year = from + (month(old.pil) == 12 && month(label.pil) == 1) as u8;
+        let window = calendar::window(label.pil, year).ok_or(11)?;
+        if window.closes <= time {
+            return Err(12);
+        }
+        self.pass(time);
+        // one that holds this label in this year has not ended: its window is the one that has not
+        if self.slots.iter().flatten().any(|timer| timer.same(label.cni, label.pil, year)) {
+            self.cancel(slot as u8);
+        } else if let Some(timer) = &mut self.slots[slot] {
+            timer.book(label.cni, label.pil, year, window);
+            bits(self.standing).for_each(|at| timer.hear(at, Some(&self.places[at].label)));
+        }
+        self.moment();
+        Ok(())
     }
 
     /// The seconds until no label stood and nothing was recording or running on, or the whole wait.
@@ -168,7 +216,7 @@ impl Desk {
         for (n, slot) in self.slots.iter().enumerate() {
             match slot {
                 Some(held) if self.clock < held.window.closes => {
-                    if (held.pil, held.cni, held.year) == (pil, cni, year) {
+                    if held.same(cni, pil, year) {
                         return Err(13);
                     }
                 }
@@ -176,8 +224,9 @@ impl Desk {
             }
         }
         let slot = room.ok_or(14)?;
-        let (home, ends) = (15 << 4 * tuner, window.closes.min(window.announced + 60 * length as u32));
-        let mut timer = Timer { cni, pil, year, window, home, ends, equal: 0, begun: 0, copy: Copy::Idle };
+        let (home, length) = (15 << 4 * tuner, 60 * length as u32);
+        let mut timer = Timer { cni, pil, year, window, home, length, ends: 0, equal: 0, begun: 0, copy: Copy::Idle };
+        timer.book(cni, pil, year, window);
         for at in bits(self.standing) {
             timer.hear(at, Some(&self.places[at].label));
         }
@@ -276,7 +325,9 @@ impl Desk {
                 next = next.min(if now < timer.window.announced { timer.window.announced } else { timer.ends });
             }
             if timer.window.opens > now {
-                // before the window a match is none; only a label that stands can be waiting for it
+                // before the window a match is none, and what a timer brought from another one ends; only a label that stands can be
+                // waiting for it
+                timer.copy = Copy::Idle;
                 if timer.equal != 0 {
                     next = next.min(timer.window.opens);
                 }

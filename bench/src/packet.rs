@@ -4,6 +4,7 @@
 #[derive(Clone, Copy, Debug, Default, PartialEq, Eq)]
 pub struct Label {
     pub lci: u8,
+    pub luf: bool,
     pub prf: bool,
     pub mi: bool,
     pub cni: u16,
@@ -45,7 +46,7 @@ const NIBBLE: [u8; 256] = {
     table
 };
 
-/// The label, or the number of the refusal, 1 to 7.
+/// The label, or the number of the refusal, 1 to 6.
 pub fn read(packet: &[u8]) -> Result<Label, u8> {
     if packet.len() != 42 {
         return Err(1);
@@ -68,11 +69,9 @@ pub fn read(packet: &[u8]) -> Result<Label, u8> {
     if all > 15 {
         return Err(6);
     }
-    if n[0] & 2 != 0 {
-        return Err(7);
-    }
     Ok(Label {
         lci: (n[0] >> 2) as u8,
+        luf: n[0] & 2 != 0,
         prf: n[0] & 1 != 0,
         mi: n[1] & 2 != 0,
         cni: (n[2] << 12 | (n[8] & 3) << 10 | (n[9] & 12) << 6 | (n[3] & 12) << 4 | (n[9] & 3) << 4 | n[10]) as u16,

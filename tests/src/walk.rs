@@ -31,6 +31,8 @@ pub struct Walked {
     pub started: AtomicU64,
     /// Those that had one by the clock.
     pub clocked: AtomicU64,
+    /// Those that moved one to another label.
+    pub moved: AtomicU64,
 }
 
 impl Walked {
@@ -39,13 +41,15 @@ impl Walked {
         self.seconds.fetch_add(seconds, Ordering::Relaxed);
         self.started.fetch_add((desk.starts() > 0) as u64, Ordering::Relaxed);
         self.clocked.fetch_add((desk.clocked() > 0) as u64, Ordering::Relaxed);
+        self.moved.fetch_add((desk.moves() > 0) as u64, Ordering::Relaxed);
         if seconds > 0 {
             let desks = if desk.skipped() == 0 { &self.from_start } else { &self.after_jump };
             desks.fetch_add(1, Ordering::Relaxed);
         }
     }
 
-    /// Whether the random sheets, or rows of calls, were walked that widely, and started timers and had them by the clock that often.
+    /// Whether the random sheets, or rows of calls, were walked that widely, and started timers, had them by the clock and moved them
+    /// that often.
     pub fn is_wide(&self) -> bool {
         let above = |number: &AtomicU64, least| number.load(Ordering::Relaxed) > least;
         above(&self.seconds, 150_000_000)
@@ -53,5 +57,6 @@ impl Walked {
             && above(&self.after_jump, SHEETS / 2)
             && above(&self.started, SHEETS / 8)
             && above(&self.clocked, SHEETS / 4)
+            && above(&self.moved, SHEETS / 5)
     }
 }

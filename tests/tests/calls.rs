@@ -6,7 +6,7 @@ use against_the_world::threads;
 use against_the_world::walk::{self, Walked};
 use independent::calls::{self, Call, Machine, State};
 use independent::desk::Desk;
-use independent::sheets;
+use independent::{paper, sheets};
 
 /// So many rows have one start of the program.
 const BATCH: usize = 1_000;
@@ -102,14 +102,19 @@ fn full_count(desk: &Answered) -> u8 {
     (0..16).filter(live).count() as u8
 }
 
+fn is_update(call: &Call) -> bool {
+    matches!(call, Call::Packet(_, _, bytes) if paper::read(bytes).map_or(false, |(label, _)| label.luf == 1))
+}
+
 /// The number that the desk keeps 'equals the full count after every call, refused or not': it beside the slots of the same answer.
-/// Among the calls are many that are refused while timers are live, and that end a live copy: by cancelling it, and by waiting.
+/// Among the calls are many that are refused while timers are live, and that end a live copy: by cancelling it, by waiting, and by a
+/// label update.
 #[test]
 fn the_number_is_the_full_count() {
     const FEW: usize = 100;
     let made: Vec<Vec<Call>> = (0..BATCH as u64).map(calls::calls).collect();
     let sent: Vec<_> = made.iter().map(|calls| rows::begun(calls).collect()).collect();
-    let (mut refused, mut cancelled, mut waited, mut clocked) = (0, 0, 0, 0);
+    let (mut refused, mut cancelled, mut waited, mut updated, mut clocked) = (0, 0, 0, 0, 0);
     for ((n, calls), mut desk) in made.iter().enumerate().zip(rows::answered(&sent)) {
         for call in calls.iter().filter(|call| !matches!(call, Call::Ask(_))) {
             let before = desk.live();
@@ -119,10 +124,12 @@ fn the_number_is_the_full_count() {
             refused += (number != 0 && now > 0) as usize;
             cancelled += (matches!(call, Call::Cancel(_)) && now < before) as usize;
             waited += (matches!(call, Call::Wait(_)) && now < before) as usize;
+            updated += (number == 0 && is_update(call) && now < before) as usize;
             clocked += (0..16).any(|slot| desk.ask(slot) == Ok(State::ByTheClock)) as usize;
         }
     }
-    assert!([refused, cancelled, waited, clocked].iter().all(|&n| n > FEW), "{refused} {cancelled} {waited} {clocked}");
+    let counted = [refused, cancelled, waited, updated, clocked];
+    assert!(counted.iter().all(|&n| n > FEW), "{counted:?}");
 }
 
 /// A panel reads the number as often as it likes, and nothing passes.

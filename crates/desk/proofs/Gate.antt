@@ -11,7 +11,7 @@ use Rattle.label.specs.Packet.{refusalNumber}
 use Rattle.label.specs.declared.Label.{Label}
 use Rattle.label.specs.declared.Refusal.{Refusal}
 use Rattle.label.specs.declared.Refusal.the-variants.{Length, AddressDamaged, OtherPacket, DesignationDamaged, OtherDesignation, LabelDamaged}
-use Rattle.desk.specs.Calls.{tunerRows, labelRows, hearingAt, hearing}
+use Rattle.desk.specs.Calls.{tunerRows, obeying, hearing}
 use Rattle.reply.specs.Numbers.{packetRefusal, packetNumber}
 use Rattle.desk.specs.declared.Desk.{Desk}
 use Rattle.reply.specs.declared.PacketRefusal.{PacketRefusal}
@@ -31,6 +31,8 @@ packet-number PacketRefusal.Before = omega arith
 packet-number PacketRefusal.Past = omega arith
 packet-number (PacketRefusal.Unread r) = reader-number r
 packet-number PacketRefusal.Update = omega arith
+packet-number PacketRefusal.NotReal = omega arith
+packet-number PacketRefusal.Ended = omega arith
 
 module _ {A B : Type 0} (a : A) (b : B) where
   shut-by : (x y z : Bool) (n : ℕ) → 0 < n → n ≡ number (firstOf ((x, 8) ∷ (y, 9) ∷ (z, 10) ∷ []) a)
@@ -53,8 +55,8 @@ module _ {A B : Type 0} (a : A) (b : B) where
     pub gate-open : p ≡ PacketAnswer.Done → firstOf (tunerRows d tuner t) b ≡ given b
     gate-open q = open-by (ltb 3 tuner) (ltb t (d .clock)) (ltb clockEnd t) (sym (ap packetNumber q) ∙ e)
 
--- past the gate a label is heard by its own row
+-- past the gate a label is obeyed
 pub hearing-open : (tuner t : ℕ) (l : Label) (d : Desk) → firstOf (tunerRows d tuner t) l ≡ given l →
-    hearing tuner t l d ≡ firstOf (labelRows l) (hearingAt tuner t l d)
+    hearing tuner t l d ≡ obeying tuner t l d
 unfolding hearing
 hearing-open tuner t l d e = rw e

@@ -11,7 +11,7 @@ use lib.ListN.{getD, List·getD-map}
 use Rattle.answer.proofs.Cases.{both-true, both-false}
 use Rattle.answer.specs.Lists.{some, count}
 use Rattle.places.specs.Places.{noLabel, standFor, stands, nowhere, lowestFrom}
-use Rattle.matching.specs.Matching.{endedAt, matches, sightOf}
+use Rattle.matching.specs.Matching.{openAt, matches, sightOf}
 use Rattle.clocked.specs.Clocked.{clocked}
 use Rattle.rule.specs.Rule.{clockOr, held, nextCopy, nextTimer, byLabels, byLabelsTimer, liveTimer}
 use Rattle.places.specs.declared.Stamped.{Stamped}
@@ -72,7 +72,7 @@ module _ (s : ℕ) (ls : List Stamped) (none : NoneStands s ls) (b : Booking) wh
 
   -- what a copy that is neither recording nor running on becomes, held or free: it 'follows from the time alone'
   abbrev rested : Bool → Copy
-  rested h = cond h (cond (endedAt s b) Waiting (clockOr s ls b Waiting)) Free
+  rested h = cond h (cond (not (openAt s b)) Waiting (clockOr s ls b Waiting)) Free
 
   waits-or-clocked : (e c : Bool) → let r = cond e Waiting (cond c ByTheClock Waiting) in (byLabels r ≡ false) × (held r ≡ true)
   waits-or-clocked true c = (refl, refl)
@@ -81,12 +81,12 @@ module _ (s : ℕ) (ls : List Stamped) (none : NoneStands s ls) (b : Booking) wh
 
   rested-dead : (h : Bool) → byLabels (rested h) ≡ false
   unfolding clockOr
-  rested-dead true = waits-or-clocked (endedAt s b) (clocked s ls b) .0
+  rested-dead true = waits-or-clocked (not (openAt s b)) (clocked s ls b) .0
   rested-dead false = refl
 
   rested-held : (h : Bool) → held (rested h) ≡ h
   unfolding clockOr
-  rested-held true = waits-or-clocked (endedAt s b) (clocked s ls b) .1
+  rested-held true = waits-or-clocked (not (openAt s b)) (clocked s ls b) .1
   rested-held false = refl
 
   nextCopy-rested : (c : Copy) → byLabels c ≡ false → nextCopy s ls b c ≡ rested (held c)

@@ -1,5 +1,5 @@
 -- A second moment at the same second changes nothing, so that every moment leaves a settled desk, and one that keeps the count.
-use Prim.Native.Nat.{ℕ, zero, suc, _-_, _≤_}
+use Prim.Native.Nat.{ℕ, zero, suc, _-_}
 use mathlib.Core.Path.{_≡_, refl, _∙_}
 use mathlib.Core.Bool.{Bool, true, false, cond, not, _&&_, and-false}
 use mathlib.Core.List.{List, [], _∷_, map}
@@ -8,8 +8,9 @@ use borrow.Author.Tests.{lt-ltb, le-ltb, not-true}
 use lib.Dec.{ltb}
 use lib.ListN.{getD}
 use Rattle.answer.proofs.Cases.{both-true}
-use Rattle.places.specs.Places.{noLabel, Found, nowhere, at, lowestFrom, lowest}
-use Rattle.matching.specs.Matching.{endedAt, matches, sightOf}
+use Rattle.places.specs.Places.{noLabel}
+use Rattle.places.proofs.Search.{lowest-passes}
+use Rattle.matching.specs.Matching.{openAt, matches, sightOf}
 use Rattle.clocked.specs.Clocked.{clocked}
 use Rattle.rule.specs.Rule.{recordingAt, clockOr, notLive, prepareFor, fromPrepared, movesOr, fromRecording, runFor, fromRunningOn, goesOn, held, nextCopy, nextTimer}
 use Rattle.places.specs.declared.Stamped.{Stamped}
@@ -23,26 +24,6 @@ use Rattle.matching.proofs.Sights.{seen-is}
 use Rattle.rule.proofs.Steps.{free-copy}
 use Rattle.desk.specs.Moments.{moment, clockedAt, nextSecond, walk, liveCount}
 use Rattle.desk.specs.declared.Desk.{Desk}
-
--- ── what is found passes ───────────────────────────────────────────────────────────────────────────────────────────
-abbrev Passes : {A : Type 0} → (A → Bool) → A → ℕ → List A → Found → Type 0
-Passes f z i xs nowhere = Unit {0}
-Passes f z i xs (at q) = (i ≤ q) × (f (getD xs (q - i) z) ≡ true)
-
-passes-next : {A : Type 0} (f : A → Bool) (z x : A) (i : ℕ) (xs : List A) (r : Found) → Passes f z (suc i) xs r → Passes f z i (x ∷ xs) r
-passes-next f z x i xs nowhere h = tt
-passes-next f z x i xs (at q) h = let e : q - i ≡ suc (q - suc i) = omega arith in (omega arith, rw e (h .1))
-
-found-passes : {A : Type 0} (f : A → Bool) (z : A) (i : ℕ) (xs : List A) → Passes f z i xs (lowestFrom f i xs)
-found-passes f z i [] = tt
-found-passes f z i (x ∷ xs) = go (f x) refl (found-passes f z (suc i) xs)
-  where
-    go : (b : Bool) → f x ≡ b → Passes f z (suc i) xs (lowestFrom f (suc i) xs) → Passes f z i (x ∷ xs) (cond b (at i) (lowestFrom f (suc i) xs))
-    go true e h = let d : i - i ≡ 0 = omega arith in (omega arith, rw d e)
-    go false e h = passes-next f z x i xs (lowestFrom f (suc i) xs) h
-
-pub lowest-passes : {A : Type 0} (f : A → Bool) (z : A) (xs : List A) (q : ℕ) → lowest f xs ≡ at q → f (getD xs q z) ≡ true
-lowest-passes f z xs q e = let d : q - 0 ≡ q = omega arith in rw (e, d) at (found-passes f z 0 xs) .1
 
 -- ── one timer's copy, at a second s ────────────────────────────────────────────────────────────────────────────────
 module _ (s : ℕ) (ls : List Stamped) (b : Booking) where
@@ -133,21 +114,21 @@ module _ (s : ℕ) (ls : List Stamped) (b : Booking) where
       stays-moves (sightOf s ls b) refl (cond (ltb (s - v) runFor) (RunningOn p v) (notLive s ls b (sightOf s ls b)))
       (stays-running p v (ltb (s - v) runFor) refl)
 
-  pub nextCopy-open : endedAt s b ≡ false → (c : Copy) → nextCopy s ls b c ≡ goesOn s ls b c
+  pub nextCopy-open : openAt s b ≡ true → (c : Copy) → nextCopy s ls b c ≡ goesOn s ls b c
   unfolding nextCopy
   nextCopy-open e c = rw (e, and-false)
 
-  pub nextCopy-ended : endedAt s b ≡ true → (c : Copy) → held c ≡ true → nextCopy s ls b c ≡ Waiting
+  pub nextCopy-shut : openAt s b ≡ false → (c : Copy) → held c ≡ true → nextCopy s ls b c ≡ Waiting
   unfolding nextCopy
-  nextCopy-ended e c h = rw (h, e)
+  nextCopy-shut e c h = rw (h, e)
 
   nextCopy-twice : (c : Copy) → nextCopy s ls b (nextCopy s ls b c) ≡ nextCopy s ls b c
-  nextCopy-twice c = go (endedAt s b) (held c) refl refl
+  nextCopy-twice c = go (openAt s b) (held c) refl refl
     where
-      go : (t h : Bool) → endedAt s b ≡ t → held c ≡ h → nextCopy s ls b (nextCopy s ls b c) ≡ nextCopy s ls b c
-      go false h e k = rw (nextCopy-open e (nextCopy s ls b c), nextCopy-open e c) (goesOn-stays c)
-      go true true e k = rw (nextCopy-ended e c k) (nextCopy-ended e Waiting refl)
-      go true false e k = rw (free-copy s ls b c k) (free-copy s ls b c k)
+      go : (t h : Bool) → openAt s b ≡ t → held c ≡ h → nextCopy s ls b (nextCopy s ls b c) ≡ nextCopy s ls b c
+      go true h e k = rw (nextCopy-open e (nextCopy s ls b c), nextCopy-open e c) (goesOn-stays c)
+      go false true e k = rw (nextCopy-shut e c k) (nextCopy-shut e Waiting refl)
+      go false false e k = rw (free-copy s ls b c k) (free-copy s ls b c k)
 
 -- ── the desk ───────────────────────────────────────────────────────────────────────────────────────────────────────
 nextTimer-twice : (s : ℕ) (ls : List Stamped) (t : Timer) → nextTimer s ls (nextTimer s ls t) ≡ nextTimer s ls t

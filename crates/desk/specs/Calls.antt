@@ -4,7 +4,7 @@ use mathlib.Core.Bool.{cond, not, _&&_, _||_}
 use mathlib.Core.List.{List, [], _∷_}
 use lib.Dec.{leb, ltb}
 use lib.ListN.{getD, set}
-use Rattle.answer.specs.Answer.{Answer, Row, firstOf, andThen}
+use Rattle.answer.specs.Answer.{Answer, given, Row, firstOf, andThen}
 use Rattle.label.specs.declared.Label.{Label}
 use Rattle.label.specs.Packet.{readingOf}
 use Rattle.calendar.specs.Calendar.{windowIn, clockEnd}
@@ -20,6 +20,7 @@ use Rattle.rule.specs.declared.Copy.{Copy}
 use Rattle.rule.specs.declared.Copy.the-variants.{Free, Waiting, Prepared, Recording, RunningOn, ByTheClock}
 use Rattle.reply.specs.Numbers.{Says}
 use Rattle.sixteen.specs.Sixteen.{noTimer, active, sameBooking, roomAt, isNowhere, slotOf}
+use Rattle.moving.specs.Moving.{Update, repeats, moves, updateFor, movedIn}
 use Rattle.desk.specs.Moments.{moment, nextSecond, passTo, walkedTo}
 use Rattle.desk.specs.declared.Desk.{Desk}
 
@@ -51,19 +52,33 @@ withLabel tuner l d =
 unfoldable pub hearingAt : ℕ → ℕ → Label → Desk → Desk
 hearingAt tuner t l d = moment (withLabel tuner l (passTo t d))
 
--- 7: 'LUF is 1 (desk only)'
-abbrev pub labelRows : Label → List Row
-labelRows l = (flag (l .luf), 7) ∷ []
+-- ── a packet with LUF 1 (02, #107) ─────────────────────────────────────────────────────────────────────────────────
+-- what is asked for takes effect. 'The place's label stays', so nothing is put there, and no stamp is renewed
+abbrev pub updated : Update → Desk → Desk
+updated repeats d = d  -- 'only moves the clock'
+updated (moves slot b) d = record { clock = d .clock; live = d .live; places = d .places; timers = movedIn (d .clock) slot b (d .timers) }
 
--- a label already read is heard: 8, 9, 10, then 7
+-- 'first passes every second up to t, then takes effect'
+unfoldable pub updatingAt : ℕ → Update → Desk → Desk
+updatingAt t u d = moment (updated u (passTo t d))
+
+-- by the label that stands at the packet's own place: 7, 11 and 12, 'all judged at the packet's second'
+unfoldable pub updating : ℕ → ℕ → Label → Desk → Answer Desk
+updating tuner t l d =
+    andThen (updateFor t (getD (d .places) (placeOf tuner l) noLabel) l (d .timers)) (λ u. given (updatingAt t u d))
+
+-- ── which of the two ───────────────────────────────────────────────────────────────────────────────────────────────
+-- with LUF 1 the label is not that of what is on air, but the one that it goes on under (EN 300 231, clause 6.2)
+unfoldable pub obeying : ℕ → ℕ → Label → Desk → Answer Desk
+obeying tuner t l d = cond (flag (l .luf)) (updating tuner t l d) (given (hearingAt tuner t l d))
+
+-- a label already read is heard: 8, 9, 10, then 7, 11, 12
 unfoldable pub hearing : ℕ → ℕ → Label → Desk → Answer Desk
-hearing tuner t l d =
-    andThen (firstOf (tunerRows d tuner t) l) (λ m. firstOf (labelRows m) (hearingAt tuner t m d))
+hearing tuner t l d = andThen (firstOf (tunerRows d tuner t) l) (λ m. obeying tuner t m d)
 
--- 'packet: 8, 9, 10, 1 to 7'
+-- 'packet: 8, 9, 10, 1 to 7', then 11 and 12 (02, #107)
 unfoldable pub packetOf : ℕ → ℕ → List ℕ → Desk → Answer Desk
-packetOf tuner t bytes d =
-    andThen (firstOf (tunerRows d tuner t) bytes) (λ p. andThen (readingOf p) (λ l. firstOf (labelRows l) (hearingAt tuner t l d)))
+packetOf tuner t bytes d = andThen (firstOf (tunerRows d tuner t) bytes) (λ p. andThen (readingOf p) (λ l. obeying tuner t l d))
 
 -- ── a wait, and one second ─────────────────────────────────────────────────────────────────────────────────────────
 -- 'wait: 9, 10'

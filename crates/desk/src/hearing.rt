@@ -1,7 +1,7 @@
 // Packets: refused, read, and heard.
 ghost use mathlib.Core.Path.{_≡_};
 ghost use Rattle.answer.specs.Answer.{firstOf, number, after};
-ghost use Rattle.desk.specs.Calls.{tunerRows, labelRows, withLabel, hearingAt, hearing, packetOf};
+ghost use Rattle.desk.specs.Calls.{tunerRows, withLabel, hearingAt, obeying, hearing, packetOf};
 ghost use Rattle.reply.specs.Numbers.{packetNumber};
 use crate::Desk;
 use crate::Heard;
@@ -44,7 +44,7 @@ impl Desk {
     }
 
     // 'Its answer is the number alone; desk, clock and lent buffers are unchanged.'
-    fn refuse(self, r: PacketRefusal) -> Heard
+    pub(crate) fn refuse(self, r: PacketRefusal) -> Heard
         ensures { λ h. ⌜ h ≡ record { answer = PacketAnswer.Refused r; desk = self } ⌝ }
     {
         Heard {
@@ -69,13 +69,12 @@ impl Desk {
         PacketAnswer::Done
     }
 
-    // Refusal 7, or the label takes effect.
+    // A label update, or the label takes effect.
     fn obey(self, tuner: u8, time: u32, l: Label) -> Heard
-        ensures { λ r. ⌜ (let o = firstOf (labelRows l) (hearingAt tuner time l self) in
-            (packetNumber (r .answer) ≡ number o) × (r .desk ≡ after self o)) ⌝ }
+        ensures { λ r. ⌜ (packetNumber (r .answer) ≡ number (obeying tuner time l self)) × (r .desk ≡ after self (obeying tuner time l self)) ⌝ }
     {
         if l.luf != 0 {
-            return self.refuse(PacketRefusal::Update);
+            return self.update(tuner, time, l);
         }
         let next = self.hearing_at(tuner, time, l);
         Heard {
@@ -84,7 +83,7 @@ impl Desk {
         }
     }
 
-    // A label already read: 8, 9, 10, then 7.
+    // A label already read: 8, 9, 10, then 7, 11 and 12.
     fn hear(self, tuner: u8, time: u32, l: Label) -> Heard
         ensures { λ r. ⌜ (packetNumber (r .answer) ≡ number (hearing tuner time l self))
             × (r .desk ≡ after self (hearing tuner time l self)) ⌝ }
@@ -96,7 +95,7 @@ impl Desk {
         }
     }
 
-    // 'Packet: 8, 9, 10, 1 to 7.'
+    // 'Packet: 8, 9, 10, 1 to 7', then 11 and 12.
     pub fn packet(self, tuner: u8, time: u32, bytes: &[u8]) -> Heard
         ensures { λ r. ⌜ (packetNumber (r .answer) ≡ number (packetOf tuner time (now (bytes .entry)) self))
             × (r .desk ≡ after self (packetOf tuner time (now (bytes .entry)) self)) ⌝ }

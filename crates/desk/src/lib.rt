@@ -3,6 +3,7 @@ mod asking; // one slot, and how many are live
 mod hearing; // packets and labels
 mod moments; // seconds, waits, and the moment that every accepted call ends in
 mod timers; // adding and cancelling
+mod updating; // label updates
 
 use places::Stamped;
 use reply::AddAnswer;

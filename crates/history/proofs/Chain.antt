@@ -7,7 +7,9 @@ use mathlib.Core.Logic.{_⊎_, inl, inr}
 use native.Mathlib.Omega.{arith}
 use lib.ListN.{take}
 use Rattle.rule.specs.Rule.{byLabels, nextTimer}
+use Rattle.matching.specs.declared.Booking.{Booking}
 use Rattle.rule.specs.declared.Timer.{Timer}
+use Rattle.moving.specs.Moving.{moves}
 use Rattle.sixteen.specs.Sixteen.{noTimer, active}
 use Rattle.desk.specs.declared.Desk.{Desk}
 use Rattle.desk.specs.Moments.{fresh, moment, clockedAt, nextSecond, walk, passTo}
@@ -15,17 +17,18 @@ use Rattle.desk.specs.Calls.{withLabel, withTimer, timerAt}
 use Rattle.desk.proofs.Settle.{Settled, moment-settled, nextSecond-settled}
 use Rattle.desk.proofs.Jump.{timerAt-moment, walk-clock}
 use Rattle.history.specs.Run.{Call, cancel, outcome, left, deskAfter, reached}
+use Rattle.history.specs.Update.{Asks}
 use Rattle.history.specs.Prepared.{secondsOf, momentsIn}
 use Rattle.history.specs.Laws.{Each}
 use Rattle.history.proofs.Lists.{getD-set}
-use Rattle.history.proofs.Steps.{Step, same, hears, waits, passes, adds, cancels, step, room-apart}
+use Rattle.history.proofs.Steps.{Step, same, hears, waits, passes, adds, cancels, updates, Put, freed, moved, step, room-apart}
 
 -- ── a slot's timer ─────────────────────────────────────────────────────────────────────────────────────────────────
--- Freed is what follows if the slot is cancelled
+-- Freed is what follows if the slot's timer is cancelled or updated
 module _ (slot : ℕ) (Freed : Type 0) where
-  -- a timer new in this slot, which held none, or one that had ended or is cancelled
+  -- a timer new in this slot, which held none, or one that had ended, is cancelled, or is updated and keeps its copy
   abbrev New : Desk → Timer → Type 0
-  New d t = (byLabels (t .copy) ≡ false) × (active (d .clock) (timerAt d slot) ≡ true → Freed)
+  New d t = ((byLabels (t .copy) ≡ false) ⊎ (t .copy ≡ timerAt d slot .copy)) × (active (d .clock) (timerAt d slot) ≡ true → Freed)
 
   abbrev SameOrNew : Desk → Timer → Type 0
   SameOrNew d t = (t ≡ timerAt d slot) ⊎ New d t
@@ -60,10 +63,26 @@ module _ (slot : ℕ) (Freed : Type 0) where
   settled-goes : (d : Desk) → Settled d → GoesOn d d
   settled-goes d h = rw h at (goes-now d d refl (inl refl))
 
-  -- a timer that neither records nor runs on is put into a slot
-  put-in : (i : ℕ) (t : Timer) (d : Desk) → byLabels (t .copy) ≡ false → (slot ≡ i → active (d .clock) (timerAt d slot) ≡ true → Freed) →
-      SameOrNew d (timerAt (withTimer i t d) slot)
-  put-in i t d n k = elim (getD-set noTimer t (d .timers) i slot) [ inl e ↦ rw (e .1) (inr (n, k (e .0))) | inr e ↦ inl e ]
+  -- a timer that neither records nor runs on, or has the copy that was there, is put into a slot
+  put-in : (i : ℕ) (t : Timer) (d : Desk) → (byLabels (t .copy) ≡ false) ⊎ (t .copy ≡ timerAt d i .copy) →
+      (slot ≡ i → active (d .clock) (timerAt d slot) ≡ true → Freed) → SameOrNew d (timerAt (withTimer i t d) slot)
+  put-in i t d n k = elim (getD-set noTimer t (d .timers) i slot) [
+    | inl e ↦ rw (e .1) (inr (rw (e .0) n, k (e .0)))
+    | inr e ↦ inl e
+  ]
+
+  -- and so is what an update leaves
+  put-copy : {t : Timer} (i : ℕ) (b : Booking) (d : Desk) → Put i b d t → (byLabels (t .copy) ≡ false) ⊎ (t .copy ≡ timerAt d i .copy)
+  put-copy i b d (freed e) = inl refl
+  put-copy i b d (moved e) = inr refl
+
+  -- what follows from a call that cancels or updates the slot's timer
+  abbrev Touches : Call → Desk → Type 0
+  Touches c d = (c ≡ cancel slot → Freed) × ((b : Booking) → Asks (moves slot b) c d → Freed)
+
+  abbrev pub AllTouch : List Call → Desk → Type 0
+  AllTouch [] d = Unit {0}
+  AllTouch (c ∷ cs) d = Touches c d × AllTouch cs (left d (outcome c d))
 
   chain-seconds : (n : ℕ) (d : Desk) (es : List Desk) → Chain (walk n d) es → Chain d (secondsOf n d ++ es)
   unfolding secondsOf walk
@@ -75,7 +94,7 @@ module _ (slot : ℕ) (Freed : Type 0) where
       Chain d (secondsOf (e .clock - d .clock) d ++ e ∷ es)
   chain-after n d e es k g c = let z : e .clock - d .clock ≡ n = omega arith in rw z (chain-seconds n d (e ∷ es) (g, c))
 
-  chain-step : {c : Call} (d : Desk) {e : Desk} → Settled d → (c ≡ cancel slot → Freed) → Step d c e → (es : List Desk) → Chain e es →
+  chain-step : {c : Call} (d : Desk) {e : Desk} → Settled d → Touches c d → Step d c e → (es : List Desk) → Chain e es →
       Chain d (secondsOf (e .clock - d .clock) d ++ e ∷ es)
   unfolding moment nextSecond walk passTo
   chain-step d h n same es c = chain-after 0 d d es (omega arith) (settled-goes d h) c
@@ -85,9 +104,13 @@ module _ (slot : ℕ) (Freed : Type 0) where
       let x = passTo t d in chain-after (t - d .clock) d _ es (walk-clock (t - d .clock) d) (goes-now x x refl (inl refl)) c
   chain-step d h n (passes k) es c = chain-after 1 d _ es (omega arith) (settled-goes (nextSecond d) (nextSecond-settled d)) c
   chain-step d h n (adds b w i e range alone room) es c =
-      chain-after 0 d _ es (omega arith) (goes-now d (withTimer i _ d) refl (put-in i _ d refl (λ k a. absurd (room-apart slot i d room a k)))) c
+      chain-after 0 d _ es (omega arith) (goes-now d (withTimer i _ d) refl (put-in i _ d (inl refl) (λ k a. absurd (room-apart slot i d room a k)))) c
   chain-step d h n (cancels i e) es c =
-      chain-after 0 d _ es (omega arith) (goes-now d (withTimer i noTimer d) refl (put-in i noTimer d refl (λ k a. n (e ∙ ap cancel (sym k))))) c
+      chain-after 0 d _ es (omega arith) (goes-now d (withTimer i noTimer d) refl (put-in i noTimer d (inl refl) (λ k a. n .0 (e ∙ ap cancel (sym k))))) c
+  chain-step d h n (updates i b a p) es k =
+      let x = passTo (a .t) d in
+      chain-after (a .t - d .clock) d _ es (walk-clock (a .t - d .clock) d)
+      (goes-now x (withTimer i _ x) refl (put-in i _ x (put-copy i b x p) (λ e l. n .1 b (rw e a)))) k
 
   settled-step : {c : Call} (d : Desk) {e : Desk} → Settled d → Step d c e → Settled e
   settled-step d h same = h
@@ -96,8 +119,9 @@ module _ (slot : ℕ) (Freed : Type 0) where
   settled-step d h (passes k) = nextSecond-settled d
   settled-step d h (adds b w i e range alone room) = moment-settled _
   settled-step d h (cancels i e) = moment-settled _
+  settled-step d h (updates i b a p) = moment-settled _
 
-  pub chain-calls : (cs : List Call) (d : Desk) → Settled d → Each (λ c. c ≡ cancel slot → Freed) cs → Chain d (momentsIn cs d)
+  pub chain-calls : (cs : List Call) (d : Desk) → Settled d → AllTouch cs d → Chain d (momentsIn cs d)
   unfolding momentsIn
   chain-calls [] d h n = tt
   chain-calls (c ∷ cs) d h n =

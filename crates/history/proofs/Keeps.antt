@@ -16,27 +16,30 @@ use Rattle.calendar.specs.Calendar.{windowIn, clockEnd}
 use Rattle.answer.proofs.Cases.{both-true}
 use Rattle.answer.specs.Lists.{some}
 use Rattle.places.specs.Places.{noLabel, stands, stamped, renewed, isContinuation, heardAt}
-use Rattle.matching.specs.Matching.{openAt, endedAt}
+use Rattle.matching.specs.Matching.{endedAt}
 use Rattle.clocked.specs.Clocked.{outOfRange, inLength}
 use Rattle.clocked.proofs.Parts.{clocked-parts}
-use Rattle.rule.specs.Rule.{held, nextCopy, nextTimer, isLive}
+use Rattle.rule.specs.Rule.{held, nextCopy, nextTimer}
 use Rattle.places.specs.declared.Stamped.{Stamped}
 use Rattle.matching.specs.declared.Booking.{Booking}
 use Rattle.rule.specs.declared.Copy.the-variants.{Waiting, ByTheClock}
 use Rattle.rule.specs.declared.Timer.{Timer}
 use Rattle.desk.specs.declared.Desk.{Desk}
 use Rattle.sixteen.specs.Sixteen.{noTimer, active, sameBooking}
+use Rattle.moving.specs.Moving.{moves, movedTo}
+use Rattle.moving.proofs.Update.{meant-matches, moved-by}
 use Rattle.desk.specs.Moments.{fresh, moment, clockedAt, nextSecond, walk, passTo}
 use Rattle.desk.specs.Calls.{placeOf, withLabel, withTimer, timerAt}
 use Rattle.desk.proofs.Settle.{Settled, moment-settled, walk-keeps}
 use Rattle.desk.proofs.Jump.{none-at, timerAt-moment}
 use Rattle.history.specs.Run.{Call, outcome, left, deskAfter, reached}
+use Rattle.history.specs.Update.{standingAt, Asks}
 use Rattle.history.specs.Laws.{SinceBy, Sound}
 use Rattle.history.proofs.Lists.{getD-set, getD-same}
-use Rattle.history.proofs.Windows.{open-later, not-ended-before}
+use Rattle.history.proofs.Windows.{not-ended-before}
 use Rattle.history.proofs.Waits.{passTo-clock}
 use Rattle.history.proofs.Next.{Next, next-is, next-held, next-live, next-since, next-within, next-clocked, since-later}
-use Rattle.history.proofs.Steps.{Step, same, hears, waits, passes, adds, cancels, step}
+use Rattle.history.proofs.Steps.{Step, same, hears, waits, passes, adds, cancels, updates, Put, freed, moved, step, other-slot}
 
 untrue : {P : Type 0} → false ≡ true → P
 untrue e = absurd (true≢false (sym e))
@@ -45,13 +48,11 @@ untrue e = absurd (true≢false (sym e))
 abbrev Real : Booking → Type 0
 Real b = (w : Window) × (windowIn (b .pil) (b .year) ≡ given w)
 
--- what holds before a moment: as Sound, but that a live copy's window may have ended by now, and a prepared copy's 60 seconds
+-- what holds before a moment: as Sound, but that a live copy's window may not be open now, and a prepared copy's 60 seconds may be over
 record Pre (d : Desk) : Type 0 where
   pub sixteen : (length (d .places) ≡ 16) × (length (d .timers) ≡ 16)
   pub stamps : (p : ℕ) → getD (d .places) p noLabel .stamp ≤ d .clock
   pub seconds : (slot : ℕ) → SinceBy (d .clock) (timerAt d slot .copy)
-  pub open-window : (slot : ℕ) → endedAt (d .clock) (timerAt d slot .booking) ≡ false → isLive (timerAt d slot .copy) ≡ true →
-      openAt (d .clock) (timerAt d slot .booking) ≡ true
   pub no-twins : (i j : ℕ) → i < j → active (d .clock) (timerAt d i) ≡ true → active (d .clock) (timerAt d j) ≡ true →
       sameBooking (timerAt d i .booking) (timerAt d j .booking) ≡ false
   pub real : (slot : ℕ) → held (timerAt d slot .copy) ≡ true → Real (timerAt d slot .booking)
@@ -87,7 +88,7 @@ sound-moment d h = record {
   stamps = h .stamps;
   seconds = λ slot. next-since _ _ _ (copy-moment d slot) (h .seconds slot);
   prepared = λ slot. next-within _ _ _ (copy-moment d slot);
-  open-window = λ slot e. rw (booking-moment d slot) (next-live _ _ _ (copy-moment d slot) (h .open-window slot) e);
+  open-window = λ slot e. rw (booking-moment d slot) (next-live _ _ _ (copy-moment d slot) e);
   in-length = λ slot e. rw (booking-moment d slot) (length-moment d slot e);
   no-twins = λ i j l a b. rw (booking-moment d i, booking-moment d j) (h .no-twins i j l (sym (active-moment d i) ∙ a) (sym (active-moment d j) ∙ b));
   real = λ slot e. rw (booking-moment d slot) (h .real slot (sym (held-moment d slot) ∙ e));
@@ -97,7 +98,7 @@ sound-moment d h = record {
 
 -- ── seconds ────────────────────────────────────────────────────────────────────────────────────────────────────────
 -- what is held and not ended at a later second is so before
-active-before : (s s′ : ℕ) → s ≤ s′ → (t : Timer) → active s′ t ≡ true → active s t ≡ true
+pub active-before : (s s′ : ℕ) → s ≤ s′ → (t : Timer) → active s′ t ≡ true → active s t ≡ true
 active-before s s′ k t a =
     let h = both-true (held (t .copy)) (not (endedAt s′ (t .booking))) a in
     rw (h .0, not-ended-before (t .booking) s s′ k (not-true (endedAt s′ (t .booking)) (h .1)))
@@ -107,7 +108,6 @@ pre-at s d h k = record {
   sixteen = h .sixteen;
   stamps = λ p. omega (arith, h .stamps p);
   seconds = λ slot. since-later (d .clock) s k (timerAt d slot .copy) (h .seconds slot);
-  open-window = λ slot e live. open-later (timerAt d slot .booking) (d .clock) s k (h .open-window slot live) e;
   no-twins = λ i j m a b. h .no-twins i j m (active-before (d .clock) s k (timerAt d i) a) (active-before (d .clock) s k (timerAt d j) b);
   real = h .real;
   in-range = h .in-range;
@@ -148,7 +148,6 @@ pre-label tuner l d h =
         | inr e ↦ rw e (h .stamps q)
       ];
       seconds = h .seconds;
-      open-window = h .open-window;
       no-twins = h .no-twins;
       real = h .real;
       in-range = h .in-range;
@@ -164,9 +163,10 @@ eqb-sym a b = go (eqb a b) refl
 sameBooking-sym : (a b : Booking) → sameBooking a b ≡ sameBooking b a
 sameBooking-sym a b = rw (eqb-sym (a .cni) (b .cni), eqb-sym (a .pil) (b .pil), eqb-sym (a .year) (b .year))
 
--- a timer that is not live in a slot
-module _ (d : Desk) (slot : ℕ) (t : Timer) (h : Pre d) (dead : isLive (t .copy) ≡ false) (since : SinceBy (d .clock) (t .copy))
-    (apart : active (d .clock) t ≡ true → (i : ℕ) → active (d .clock) (timerAt d i) ≡ true → sameBooking (t .booking) (timerAt d i .booking) ≡ false)
+-- a timer that no other slot holds, in a slot
+module _ (d : Desk) (slot : ℕ) (t : Timer) (h : Pre d) (since : SinceBy (d .clock) (t .copy))
+    (apart : active (d .clock) t ≡ true → (i : ℕ) → (i ≡ slot → ⊥) → active (d .clock) (timerAt d i) ≡ true →
+    sameBooking (t .booking) (timerAt d i .booking) ≡ false)
     (t-real : held (t .copy) ≡ true → Real (t .booking)) (t-in-range : held (t .copy) ≡ true → outOfRange (t .booking) ≡ false) where
   pre-timer : Pre (withTimer slot t d)
   pre-timer =
@@ -175,11 +175,10 @@ module _ (d : Desk) (slot : ℕ) (t : Timer) (h : Pre d) (dead : isLive (t .copy
         sixteen = (h .sixteen .0, length-set (d .timers) slot t ∙ h .sixteen .1);
         stamps = h .stamps;
         seconds = λ i. elim (at-slot i) [ inl e ↦ rw (e .1) since | inr e ↦ rw e (h .seconds i) ];
-        open-window = λ i. elim (at-slot i) [ inl e ↦ rw (e .1) (λ k l. absurd (true≢false (sym l ∙ dead))) | inr e ↦ rw e (h .open-window i) ];
         no-twins = λ i j l. elim (at-slot i) [
-          | inl e ↦ elim (at-slot j) [ inl f ↦ absurd (omega (arith, e .0, f .0)) | inr f ↦ rw (e .1, f) (λ a b. apart a j b) ]
+          | inl e ↦ elim (at-slot j) [ inl f ↦ absurd (omega (arith, e .0, f .0)) | inr f ↦ rw (e .1, f) (λ a b. apart a j (λ k. omega (arith, e .0)) b) ]
           | inr e ↦ elim (at-slot j) [
-            | inl f ↦ rw (e, f .1) (λ a b. sameBooking-sym (timerAt d i .booking) (t .booking) ∙ apart b i a)
+            | inl f ↦ rw (e, f .1) (λ a b. sameBooking-sym (timerAt d i .booking) (t .booking) ∙ apart b i (λ k. omega (arith, f .0)) a)
             | inr f ↦ rw (e, f) (h .no-twins i j l)
           ]
         ];
@@ -187,11 +186,31 @@ module _ (d : Desk) (slot : ℕ) (t : Timer) (h : Pre d) (dead : isLive (t .copy
         in-range = λ i. elim (at-slot i) [ inl e ↦ rw (e .1) t-in-range | inr e ↦ rw e (h .in-range i) ];
       }
 
+-- the test of refusal 13, and of an update's new label
+unlike : (d : Desk) (b : Booking) → some (λ t. active (d .clock) t && sameBooking b (t .booking)) (d .timers) ≡ false →
+    (i : ℕ) → active (d .clock) (timerAt d i) ≡ true → sameBooking b (timerAt d i .booking) ≡ false
+unlike d b e i a = rw a at (none-at (λ t. active (d .clock) t && sameBooking b (t .booking)) noTimer refl (d .timers) e i)
+
 module _ (d : Desk) (h : Sound d) where
-  -- the test of refusal 13
-  unlike : (b : Booking) → some (λ t. active (d .clock) t && sameBooking b (t .booking)) (d .timers) ≡ false →
-      (i : ℕ) → active (d .clock) (timerAt d i) ≡ true → sameBooking b (timerAt d i .booking) ≡ false
-  unlike b e i a = rw a at (none-at (λ t. active (d .clock) t && sameBooking b (t .booking)) noTimer refl (d .timers) e i)
+  -- a home tuner and a length are kept
+  moved-range : (slot : ℕ) (b : Booking) {c : Call} (a : Asks (moves slot b) c d) → outOfRange b ≡ false
+  unfolding outOfRange movedTo
+  moved-range slot b a =
+      let old = standingAt (a .tuner) (a .label) d in
+      let m = moved-by (a .t) old (a .label) (d .timers) slot b (a .asks) in
+      ap outOfRange (m .becomes) ∙ h .in-range slot (meant-matches (a .t) old (d .timers) slot (m .found) .0)
+
+  pre-put : (slot : ℕ) (b : Booking) {c : Call} (a : Asks (moves slot b) c d) {t : Timer} → let x = passTo (a .t) d in Put slot b x t → Pre (withTimer slot t x)
+  pre-put slot b a (freed e) =
+      let x = passTo (a .t) d in
+      pre-timer x slot noTimer (pre-now x (sound-pass (a .t) d h)) tt untrue untrue untrue
+  pre-put slot b a (moved e) =
+      let x = passTo (a .t) d in
+      let s = sound-pass (a .t) d h in
+      let m = moved-by (a .t) (standingAt (a .tuner) (a .label) d) (a .label) (d .timers) slot b (a .asks) in
+      pre-timer x slot _ (pre-now x s) (s .seconds slot)
+      (λ k i n. rw (other-slot i slot noTimer x n) at (unlike (withTimer slot noTimer x) b e i))
+      (λ k. (m .window, m .real)) (λ k. moved-range slot b a)
 
   pub keeps : {c : Call} {e : Desk} → Step d c e → Sound e
   keeps same = h
@@ -200,9 +219,10 @@ module _ (d : Desk) (h : Sound d) where
   keeps (passes k) = sound-second d h
   keeps (adds b w slot e range alone room) =
       let t : Timer = record { booking = b; copy = Waiting } in
-      sound-moment _ (pre-timer d slot t (pre-now d h) refl tt (λ a. unlike b alone) (λ k. (w, e)) (λ k. range))
+      sound-moment _ (pre-timer d slot t (pre-now d h) tt (λ a i n. unlike d b alone i) (λ k. (w, e)) (λ k. range))
   keeps (cancels slot e) =
-      sound-moment _ (pre-timer d slot noTimer (pre-now d h) refl tt untrue untrue untrue)
+      sound-moment _ (pre-timer d slot noTimer (pre-now d h) tt untrue untrue untrue)
+  keeps (updates slot b a p) = sound-moment _ (pre-put slot b a p)
 
 -- no call passes the clock's end
 within : (d : Desk) → d .clock ≤ clockEnd → {c : Call} {e : Desk} → Step d c e → e .clock ≤ clockEnd
@@ -213,6 +233,7 @@ within d h (waits t k m) = rw (passTo-clock d t k) m
 within d h (passes k) = k
 within d h (adds b w slot e range alone room) = h
 within d h (cancels slot e) = h
+within d h (updates slot b a p) = rw (passTo-clock d (a .t) (a .from)) (a .to)
 
 -- what each call keeps, all of them keep
 kept : (P : Desk → Type 0) → ((d : Desk) (c : Call) → P d → P (left d (outcome c d))) → (cs : List Call) (d : Desk) → P d → P (deskAfter cs d)

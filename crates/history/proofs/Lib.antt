@@ -2,9 +2,10 @@ pub mod Lists
 pub mod Windows
 pub mod Refused
 pub mod Walked
-pub mod Waits
 pub mod Sees
 pub mod Next
+pub mod Alike
+pub mod Waits
 pub mod Steps
 pub mod Keeps
 pub mod OneCopy
@@ -14,4 +15,5 @@ pub mod Clock
 pub mod Silent
 pub mod Short
 pub mod Stays
+pub mod Updates
 pub mod Proved

@@ -9,9 +9,9 @@ use lib.Dec.{ltb}
 use lib.ListN.{getD}
 use Rattle.answer.proofs.Cases.{by-test}
 use Rattle.places.specs.Places.{noLabel}
-use Rattle.matching.specs.Matching.{openAt, endedAt, matches, sightOf}
+use Rattle.matching.specs.Matching.{openAt, matches, sightOf}
 use Rattle.clocked.specs.Clocked.{clocked}
-use Rattle.clocked.proofs.Parts.{clocked-parts}
+use Rattle.clocked.proofs.Parts.{clocked-parts, clocked-shut}
 use Rattle.rule.specs.Rule.{recordingAt, clockOr, notLive, prepareFor, fromPrepared, movesOr, fromRecording, runFor, fromRunningOn, goesOn, held, nextCopy, isLive}
 use Rattle.places.specs.declared.Stamped.{Stamped}
 use Rattle.matching.specs.declared.Booking.{Booking}
@@ -20,10 +20,10 @@ use Rattle.rule.specs.declared.Copy.the-variants.{Free, Waiting, Prepared, Reco
 use Rattle.matching.specs.declared.Sight.{Sight}
 use Rattle.matching.specs.declared.Sight.the-variants.{Nothing, Prepare, Start}
 use Rattle.rule.proofs.Steps.{not-held, free-copy}
-use Rattle.desk.proofs.Settle.{start-matches, prepare-matches, nextCopy-open, nextCopy-ended}
+use Rattle.desk.proofs.Settle.{start-matches, prepare-matches, nextCopy-open, nextCopy-shut}
 use Rattle.history.specs.Prepared.{NoPrf0, preparedSince}
 use Rattle.history.specs.Laws.{SinceBy, PreparedWithin}
-use Rattle.history.proofs.Windows.{matches-open, ended-not-clocked}
+use Rattle.history.proofs.Windows.{matches-open}
 use Rattle.history.proofs.Sees.{prepare-only, nothing-starts}
 
 -- ── the cases ──────────────────────────────────────────────────────────────────────────────────────────────────────
@@ -46,8 +46,8 @@ module _ (s : ℕ) (ls : List Stamped) (b : Booking) where
     -- it stays at its place
     stays : (q : ℕ) (mi : Bool) → c ≡ Recording q mi → matches s b (labelAt q) ≡ true → Next c (recordingAt ls q)
     -- it runs on from now, or still does
-    leaves : (p : ℕ) (mi : Bool) → c ≡ Recording p mi → endedAt s b ≡ false → Next c (RunningOn p s)
-    runs : (p v : ℕ) → c ≡ RunningOn p v → endedAt s b ≡ false → s - v < runFor → Next c (RunningOn p v)
+    leaves : (p : ℕ) (mi : Bool) → c ≡ Recording p mi → openAt s b ≡ true → Next c (RunningOn p s)
+    runs : (p v : ℕ) → c ≡ RunningOn p v → openAt s b ≡ true → s - v < runFor → Next c (RunningOn p v)
 
   next-clock-or : (c n : Copy) → held c ≡ true → NoPrf0 s ls b → (clocked s ls b ≡ false → Next c n) → Next c (clockOr s ls b n)
   unfolding clockOr
@@ -72,7 +72,7 @@ module _ (s : ℕ) (ls : List Stamped) (b : Booking) where
   next-moves c h (Prepare q) e n k = k
   next-moves c h Nothing e n k = k
 
-  next-open : endedAt s b ≡ false → (c : Copy) → Next c (goesOn s ls b c)
+  next-open : openAt s b ≡ true → (c : Copy) → Next c (goesOn s ls b c)
   unfolding fromRecording fromRunningOn
   next-open o Free = free refl
   next-open o Waiting = next-not-live Waiting refl refl (sightOf s ls b) refl
@@ -98,12 +98,12 @@ module _ (s : ℕ) (ls : List Stamped) (b : Booking) where
   next-open o ByTheClock = next-not-live ByTheClock refl refl (sightOf s ls b) refl
 
   pub next-is : (c : Copy) → Next c (nextCopy s ls b c)
-  next-is c = go (endedAt s b) (held c) refl refl
+  next-is c = go (openAt s b) (held c) refl refl
     where
-      go : (t h : Bool) → endedAt s b ≡ t → held c ≡ h → Next c (nextCopy s ls b c)
-      go false h e k = rw (nextCopy-open s ls b e c) (next-open e c)
-      go true true e k = rw (nextCopy-ended s ls b e c k) (waits (ended-not-clocked b s ls e) k)
-      go true false e k = let f = not-held c k in rw (free-copy s ls b c k, f) (free refl)
+      go : (t h : Bool) → openAt s b ≡ t → held c ≡ h → Next c (nextCopy s ls b c)
+      go true h e k = rw (nextCopy-open s ls b e c) (next-open e c)
+      go false true e k = rw (nextCopy-shut s ls b e c k) (waits (clocked-shut s ls b e) k)
+      go false false e k = let f = not-held c k in rw (free-copy s ls b c k, f) (free refl)
 
   -- ── what is kept ─────────────────────────────────────────────────────────────────────────────────────────────────
   pub next-held : {c n : Copy} → Next c n → held n ≡ held c
@@ -120,17 +120,17 @@ module _ (s : ℕ) (ls : List Stamped) (b : Booking) where
   next-held (runs p v e o r) = rw e
 
   -- a live copy's window is open
-  pub next-live : {c n : Copy} → Next c n → (endedAt s b ≡ false → isLive c ≡ true → openAt s b ≡ true) → isLive n ≡ true → openAt s b ≡ true
-  next-live (free e) h l = absurd (true≢false (sym l))
-  next-live (waits f k) h l = absurd (true≢false (sym l))
-  next-live (by-clock f k n) h l = clocked-parts s ls b f .2
-  next-live (prepares f g k i) h l = absurd (true≢false (sym l))
-  next-live (still v f g e k) h l = absurd (true≢false (sym l))
-  next-live (at-last q v e k m) h l = matches-open b s (labelAt q) m
-  next-live (starts q k m z) h l = matches-open b s (labelAt q) m
-  next-live (stays q mi e m) h l = matches-open b s (labelAt q) m
-  next-live (leaves p mi e o) h l = h o (rw e)
-  next-live (runs p v e o r) h l = h o (rw e)
+  pub next-live : {c n : Copy} → Next c n → isLive n ≡ true → openAt s b ≡ true
+  next-live (free e) l = absurd (true≢false (sym l))
+  next-live (waits f k) l = absurd (true≢false (sym l))
+  next-live (by-clock f k n) l = clocked-parts s ls b f .2
+  next-live (prepares f g k i) l = absurd (true≢false (sym l))
+  next-live (still v f g e k) l = absurd (true≢false (sym l))
+  next-live (at-last q v e k m) l = matches-open b s (labelAt q) m
+  next-live (starts q k m z) l = matches-open b s (labelAt q) m
+  next-live (stays q mi e m) l = matches-open b s (labelAt q) m
+  next-live (leaves p mi e o) l = o
+  next-live (runs p v e o r) l = o
 
   -- no copy is prepared or runs on from after s
   pub next-since : {c n : Copy} → Next c n → SinceBy s c → SinceBy s n

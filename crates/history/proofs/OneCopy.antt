@@ -8,6 +8,8 @@ use Rattle.calendar.specs.Laws.{InWindow}
 use Rattle.calendar.proofs.Proved as calendar
 use Rattle.answer.specs.Lists.{count}
 use Rattle.answer.proofs.Cases.{both-true}
+use Rattle.matching.specs.declared.Booking.{Booking}
+use Rattle.matching.specs.Matching.{openAt}
 use Rattle.rule.specs.Rule.{held, isLive, liveTimer}
 use Rattle.rule.specs.declared.Copy.{Copy}
 use Rattle.rule.specs.declared.Copy.the-variants.{Free, Waiting, Prepared, Recording, RunningOn, ByTheClock}
@@ -32,16 +34,18 @@ live-active d h slot l =
     let t = timerAt d slot in
     rw (live-held (t .copy) l, open-not-ended (t .booking) (d .clock) (h .open-window slot l))
 
+-- two bookings of one programme whose windows are open at one second are the same: no PIL's windows of two years meet
+pub same-open : (s : ℕ) (t u : Booking) → openAt s t ≡ true → openAt s u ≡ true → t .cni ≡ u .cni → t .pil ≡ u .pil → sameBooking t u ≡ true
+same-open s t u a b cni pil =
+    let in-u : InWindow (t .pil) (u .year) s = rw pil (open-in-window u s b) in
+    let year : t .year ≡ u .year = calendar.laws .one-year (t .pil) (t .year) (u .year) s (open-in-window t s a) in-u in
+    rw (eq-eqb (t .cni) (u .cni) cni, eq-eqb (t .pil) (u .pil) pil, eq-eqb (t .year) (u .year) year)
+
 pub no-two : (d : Desk) → Sound d → (i j : ℕ) → i < j →
     let t = timerAt d i in let u = timerAt d j in
     liveTimer t ≡ true → liveTimer u ≡ true → t .booking .cni ≡ u .booking .cni → t .booking .pil ≡ u .booking .pil → ⊥
 no-two d h i j l a b cni pil =
-    let t = timerAt d i .booking in
-    let u = timerAt d j .booking in
-    let in-t = open-in-window t (d .clock) (h .open-window i a) in
-    let in-u : InWindow (t .pil) (u .year) (d .clock) = rw pil (open-in-window u (d .clock) (h .open-window j b)) in
-    let year : t .year ≡ u .year = calendar.laws .one-year (t .pil) (t .year) (u .year) (d .clock) in-t in-u in
-    let alike : sameBooking t u ≡ true = rw (eq-eqb (t .cni) (u .cni) cni, eq-eqb (t .pil) (u .pil) pil, eq-eqb (t .year) (u .year) year) in
+    let alike = same-open (d .clock) (timerAt d i .booking) (timerAt d j .booking) (h .open-window i a) (h .open-window j b) cni pil in
     true≢false (sym alike ∙ h .no-twins i j l (live-active d h i a) (live-active d h j b))
 
 pub one-copy : (d : Desk) → Sound d → (cni pil : ℕ) → count (copyOf cni pil) (d .timers) ≤ 1

@@ -21,16 +21,17 @@ use Rattle.desk.specs.declared.Desk.{Desk}
 use Rattle.desk.specs.Moments.{moment, clockedAt, nextSecond, passTo}
 use Rattle.desk.specs.Calls.{withLabel, withTimer, timerAt}
 use Rattle.desk.proofs.Settle.{Settled, prepare-matches, walk-keeps}
-use Rattle.history.specs.Run.{Call, cancel, outcome, left}
+use Rattle.history.specs.Run.{Call, outcome, left}
+use Rattle.history.specs.Update.{AllSpare}
 use Rattle.history.specs.Prepared.{momentsIn, OnlyPrf1, RecordsFrom, PreparedThenRecords, preparedSince}
 use Rattle.history.specs.Laws.{Each, Sound}
 use Rattle.history.proofs.Lists.{getD-set}
 use Rattle.history.proofs.Windows.{open-not-ended, matches-open}
 use Rattle.history.proofs.Next.{next-is, next-prepared-since}
 use Rattle.history.proofs.Sees.{sees-prepare, prepare-only}
-use Rattle.history.proofs.Steps.{Step, same, hears, waits, passes, adds, cancels, step}
+use Rattle.history.proofs.Steps.{Step, same, hears, waits, passes, adds, cancels, updates, Put, freed, moved, step}
 use Rattle.history.proofs.Keeps.{copy-moment, settled-copy}
-use Rattle.history.proofs.Chain.{GoesOn, Chain, chain-calls, each-second}
+use Rattle.history.proofs.Chain.{GoesOn, Chain, AllTouch, chain-calls, each-second}
 
 -- ── what is prepared ───────────────────────────────────────────────────────────────────────────────────────────────
 pub since : (s v : ℕ) (ls : List Stamped) (b : Booking) (c : Copy) → nextCopy s ls b c ≡ Prepared v → v ≡ preparedSince s c
@@ -91,13 +92,17 @@ prepared-lasts d h slot v e =
     let seen = next-prepared-since _ _ _ (settled-copy d slot h) v e .2 in
     open-not-ended b (d .clock) (matches-open b (d .clock) _ (prepare-matches (d .clock) (d .places) b (seen .0) (seen .1)))
 
+pub all-touch : (slot : ℕ) (cs : List Call) (d : Desk) → AllSpare slot cs d → AllTouch slot ⊥ cs d
+all-touch slot [] d n = tt
+all-touch slot (c ∷ cs) d n = (n .0, all-touch slot cs (left d (outcome c d)) (n .1))
+
 pub after-60 : (d : Desk) → Sound d → (slot v : ℕ) (later : List Call) → timerAt d slot .copy ≡ Prepared v →
-    Each (λ c. c ≡ cancel slot → ⊥) later → PreparedThenRecords slot (timerAt d slot .booking) v (momentsIn later d)
+    AllSpare slot later d → PreparedThenRecords slot (timerAt d slot .booking) v (momentsIn later d)
 after-60 d h slot v later e n =
     let b = timerAt d slot .booking in
     prepared-then slot b v (momentsIn later d) d
     (record { timer = ap (λ c. record { booking = b; copy = c }) e; lasts = prepared-lasts d (h .settled) slot v e; held-now = refl })
-    (rw e at (h .prepared slot)) (chain-calls slot ⊥ later d (h .settled) n)
+    (rw e at (h .prepared slot)) (chain-calls slot ⊥ later d (h .settled) (all-touch slot later d n))
 
 -- ── a break ────────────────────────────────────────────────────────────────────────────────────────────────────────
 module _ (u slot : ℕ) where
@@ -144,6 +149,17 @@ module _ (u slot : ℕ) where
   free-anew : Anew Free
   free-anew v e = absurd (let z : _≡_ {A = ℕ} 0 1 = cc in omega arith)
 
+  -- an updated timer keeps its copy
+  anew-put : {t : Timer} (i : ℕ) (b : Booking) (d : Desk) → NotBefore d → Put i b d t → NotBefore (withTimer i t d)
+  anew-put i b d h (freed e) = anew-timer i noTimer d free-anew h
+  anew-put i b d h (moved e) = record {
+    clock = h .clock;
+    anew = elim (getD-set noTimer (record { booking = b; copy = timerAt d i .copy }) (d .timers) i slot) [
+      | inl k ↦ rw (k .1, ← k .0) (h .anew)
+      | inr k ↦ rw k (h .anew)
+    ];
+  }
+
   anew-step : {c : Call} (d : Desk) {e : Desk} → NotBefore d → Step d c e → NotBefore e
   anew-step d h same = h
   anew-step d h (hears tuner t l r k m) =
@@ -152,6 +168,10 @@ module _ (u slot : ℕ) where
   anew-step d h (passes k) = anew-second d h
   anew-step d h (adds b w i e range alone room) = anew-moment (withTimer i _ d) (anew-timer i _ d waiting-anew h)
   anew-step d h (cancels i e) = anew-moment (withTimer i noTimer d) (anew-timer i noTimer d free-anew h)
+  anew-step d h (updates i b a p) =
+      let x = passTo (a .t) d in
+      let k = anew-pass (a .t) d h in
+      anew-moment (withTimer i _ x) (anew-put i b x k p)
 
   abbrev AllAnew : List Desk → Type 0
   AllAnew es = Each (λ e. Anew (timerAt e slot .copy)) es

@@ -15,6 +15,7 @@ use Rattle.history.proofs.Chain.{each-moment}
 use Rattle.history.proofs.Prepared.{after-60, since, prepares, break}
 use Rattle.history.proofs.Clock.{by-the-clock, no-gap, taken-over, clock-ends-prepared}
 use Rattle.history.proofs.Silent.{silent-home, never-hears}
+use Rattle.history.proofs.Updates.{update-does, repeat-waits, refused-leaves, update-elsewhere, update-only, update-takes, update-twin, update-moves, update-leaves}
 
 pub laws : Laws
 unfolding walkedTo
@@ -44,4 +45,13 @@ laws =
       no-gap = λ cs n. no-gap _ (sound-walk n (reached cs) (sound-reached cs) .settled);
       taken-over = λ s q ls b. taken-over s ls b q;
       clock-ends-prepared = λ s v ls b. clock-ends-prepared s ls b v;
+      update-does = update-does;
+      repeat-waits = repeat-waits;
+      refused-leaves = refused-leaves;
+      update-elsewhere = update-elsewhere;
+      update-only = λ cs. update-only (reached cs) (sound-reached cs);
+      update-takes = update-takes;
+      update-twin = update-twin;
+      update-moves = λ cs c slot b a. update-moves c (reached cs) slot b a (sound-reached cs .settled);
+      update-leaves = λ cs c slot place mi b a n. update-leaves c (reached cs) slot b a (sound-reached cs .settled) n place mi;
     }

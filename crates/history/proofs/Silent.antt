@@ -27,9 +27,9 @@ use Rattle.history.specs.Laws.{Each, Sound}
 use Rattle.history.proofs.Lists.{getD-set, getD-same}
 use Rattle.history.proofs.Next as next
 use Rattle.history.proofs.Next.{Next, next-is}
-use Rattle.history.proofs.Steps.{Step, same, hears, waits, passes, adds, cancels, step, room-apart, added-room}
+use Rattle.history.proofs.Steps.{Step, same, hears, waits, passes, adds, cancels, updates, step, room-apart, added-room}
 use Rattle.history.proofs.OneCopy.{live-active}
-use Rattle.history.proofs.Chain.{Chain, chain-calls, each-of}
+use Rattle.history.proofs.Chain.{Chain, AllTouch, chain-calls}
 
 -- ── one copy ───────────────────────────────────────────────────────────────────────────────────────────────────────
 module _ (s : ℕ) (ls : List Stamped) (b : Booking) (none : (q : ℕ) → matches s b (getD ls q noLabel) ≡ false) where
@@ -68,7 +68,7 @@ module _ (slot : ℕ) where
   live-by-time b [] d n c = tt
   live-by-time b (e ∷ es) d n c = λ h.
       let g = c .0 in
-      let not-was : byLabels (g .was .copy) ≡ false = elim (g .before) [ inl w ↦ rw w n | inr w ↦ w .0 ] in
+      let not-was : byLabels (g .was .copy) ≡ false = elim (g .before) [ inl w ↦ rw w n | inr w ↦ elim (w .0) [ inl k ↦ k | inr k ↦ rw k n ] ] in
       let goes : Next (e .clock) (e .places) (timerAt e slot .booking) (g .was .copy) (timerAt e slot .copy) = rw (g .timer) (next-is _ _ _ _) in
       let k = next-unheard (e .clock) (e .places) b (h .no-match) (rw (h .booked) at goes) not-was in
       (k .1 (h .is-held) ∙ silent-clocked e b (h .silent), live-by-time b es e (k .0) (c .1))
@@ -79,12 +79,16 @@ module _ (slot : ℕ) where
       let c = timerAt d slot .copy in
       by-test (byLabels c) (λ l. absurd (room-apart slot slot d e (live-active d h slot (by-labels-live c l)) refl)) (λ l. l)
 
+whatever : (slot : ℕ) (cs : List Call) (d : Desk) → AllTouch slot (Unit {0}) cs d
+whatever slot [] d = tt
+whatever slot (c ∷ cs) d = ((λ e. tt, λ b a. tt), whatever slot cs (left d (outcome c d)))
+
 pub silent-home : (d : Desk) → Sound d → (b : Booking) (o : Told) (later : List Call) → addOf b d ≡ given o →
     LiveByTime (o .says) b (momentsIn (add b ∷ later) d)
 silent-home d h b o later e =
     let slot = o .says in
     live-by-time slot b (momentsIn (add b ∷ later) d) d (room-quiet slot d h (added-room b d o e))
-    (chain-calls slot (Unit {0}) (add b ∷ later) d (h .settled) (each-of (λ c k. tt) (add b ∷ later)))
+    (chain-calls slot (Unit {0}) (add b ∷ later) d (h .settled) (whatever slot (add b ∷ later) d))
 
 -- ── a tuner ────────────────────────────────────────────────────────────────────────────────────────────────────────
 module _ (tuner : ℕ) where
@@ -108,6 +112,7 @@ module _ (tuner : ℕ) where
   step-not-heard d h n (passes to) = h
   step-not-heard d h n (adds b w i e range alone room) = h
   step-not-heard d h n (cancels i e) = h
+  step-not-heard d h n (updates i b a p) = λ k m. rw walk-places (h k m)
 
   not-heard : (cs : List Call) (d : Desk) → NotHeard d → Each Elsewhere cs → NotHeard (deskAfter cs d)
   unfolding deskAfter

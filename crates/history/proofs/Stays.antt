@@ -24,11 +24,12 @@ use Rattle.desk.specs.Calls.{roomIn, withLabel, withTimer, timerAt}
 use Rattle.desk.proofs.Settle.{nextCopy-open}
 use Rattle.desk.proofs.Jump.{timerAt-moment, walk-clock}
 use Rattle.history.specs.Run.{Call, cancel, deskAfter}
+use Rattle.history.specs.Update.{Spares}
 use Rattle.history.specs.Laws.{Sound, recordsAt, longPrepared}
 use Rattle.history.proofs.Windows.{open-not-ended, open-later, not-ended-before, matches-open}
 use Rattle.history.proofs.Next as next
 use Rattle.history.proofs.Next.{Next, next-is}
-use Rattle.history.proofs.Steps.{Step, same, hears, waits, passes, adds, cancels, step, other-slot, room-apart}
+use Rattle.history.proofs.Steps.{Step, same, hears, waits, passes, adds, cancels, updates, step, other-slot, room-apart}
 use Rattle.history.proofs.OneCopy.{live-active}
 
 -- ── what starts a copy ─────────────────────────────────────────────────────────────────────────────────────────────
@@ -85,7 +86,7 @@ module _ (slot place : ℕ) (b : Booking) where
   unfolding moment nextTimer fromRecording
   moment-records d r m =
       timerAt-moment d slot
-      ∙ rw (r .1, nextCopy-open (d .clock) (d .places) b (open-not-ended b (d .clock) (matches-open b (d .clock) _ m)) (Recording place (r .0)), m)
+      ∙ rw (r .1, nextCopy-open (d .clock) (d .places) b (matches-open b (d .clock) _ m) (Recording place (r .0)), m)
 
   walk-records : (n : ℕ) (d : Desk) → Records d → ((s : ℕ) → d .clock ≤ s → s ≤ d .clock + n → MatchesAt s d) → Records (walk n d)
   unfolding walk nextSecond moment recordingAt
@@ -111,7 +112,7 @@ module _ (slot place : ℕ) (b : Booking) where
   records-open : (d : Desk) → Sound d → Records d → openAt (d .clock) b ≡ true
   records-open d h r = (rw (r .1) at (h .open-window slot)) refl
 
-  step-records : {c : Call} (d : Desk) {e : Desk} → Sound d → Records d → (c ≡ cancel slot → ⊥) → Step d c e →
+  step-records : {c : Call} (d : Desk) {e : Desk} → Sound d → Records d → Spares slot c d → Step d c e →
       MatchesAt (e .clock) d → MatchesAt (e .clock) e → RecordsOn e
   unfolding moment nextSecond
   step-records d h r n same m l = ap (λ x. timerAt x slot) (sym (h .settled)) ∙ moment-records d r m
@@ -119,9 +120,13 @@ module _ (slot place : ℕ) (b : Booking) where
   step-records d h r n (waits t k z) m l = moment-records (passTo t d) (pass-records t d r (records-open d h r) m) l
   step-records d h r n (passes k) m l = moment-records (clockedAt (suc (d .clock)) d) r l
   step-records d h r n (adds x w i e range alone room) m l = moment-records (withTimer i _ d) (other-records i _ d (room-other i d h r room) r) l
-  step-records d h r n (cancels i e) m l = moment-records (withTimer i noTimer d) (other-records i noTimer d (λ k. n (e ∙ ap cancel (sym k))) r) l
+  step-records d h r n (cancels i e) m l = moment-records (withTimer i noTimer d) (other-records i noTimer d (λ k. n .0 (e ∙ ap cancel (sym k))) r) l
+  step-records d h r n (updates i x a p) m l =
+      let y = passTo (a .t) d in
+      moment-records (withTimer i _ y)
+      (other-records i _ y (λ k. n .1 x (rw k a)) (pass-records (a .t) d r (records-open d h r) m)) l
 
-pub stays : (d : Desk) → Sound d → (c : Call) (slot place : ℕ) (mi : Bool) → (c ≡ cancel slot → ⊥) →
+pub stays : (d : Desk) → Sound d → (c : Call) (slot place : ℕ) (mi : Bool) → Spares slot c d →
     let e = deskAfter (c ∷ []) d in let b = timerAt d slot .booking in
     timerAt d slot .copy ≡ Recording place mi → matches (e .clock) b (getD (d .places) place noLabel) ≡ true →
     matches (e .clock) b (getD (e .places) place noLabel) ≡ true →

@@ -14,18 +14,21 @@ use Rattle.label.specs.Packet.{valueAt, readerRows, labelIn, readingOf}
 use Rattle.calendar.specs.declared.Window.{Window}
 use Rattle.calendar.specs.Calendar.{windowIn, clockEnd}
 use Rattle.answer.specs.Lists.{some}
-use Rattle.places.specs.Places.{Found, nowhere, at}
+use Rattle.answer.proofs.Cases.{by-test}
+use Rattle.places.specs.Places.{Found, nowhere, at, flag}
 use Rattle.clocked.specs.Clocked.{outOfRange}
 use Rattle.matching.specs.declared.Booking.{Booking}
 use Rattle.rule.specs.declared.Copy.the-variants.{Waiting}
 use Rattle.rule.specs.declared.Timer.{Timer}
 use Rattle.desk.specs.declared.Desk.{Desk}
 use Rattle.sixteen.specs.Sixteen.{noTimer, active, sameBooking, isNowhere, slotOf}
+use Rattle.moving.specs.Moving.{Update, repeats, moves, updateFor, movedIn}
 use Rattle.desk.specs.Moments.{moment, nextSecond, passTo}
 use Rattle.reply.specs.Numbers.{Says}
-use Rattle.desk.specs.Calls.{Told, tunerRows, timeRows, labelRows, withLabel, hearingAt, packetOf, waitOf, secondOf, roomIn, withTimer, addRows, addOf, slotRows, cancelOf, askOf, timerAt}
+use Rattle.desk.specs.Calls.{Told, tunerRows, timeRows, withLabel, hearingAt, updated, updatingAt, updating, obeying, packetOf, waitOf, secondOf, roomIn, withTimer, addRows, addOf, slotRows, cancelOf, askOf, timerAt}
 use Rattle.history.specs.Run.{Call, packet, wait, second, add, cancel, ask, live, onlyDesk, toldToo, saysOnly, outcome, left}
-use Rattle.desk.proofs.Settle.{lowest-passes}
+use Rattle.history.specs.Update.{standingAt, Asks}
+use Rattle.places.proofs.Search.{lowest-passes}
 use Rattle.history.proofs.Lists.{getD-set}
 
 -- a call is a packet to a tuner at second t, which reads as a label of one of its four LCI
@@ -33,6 +36,12 @@ pub record Reads (c : Call) (tuner t : ℕ) (l : Label) : Type 0 where
   pub bytes : List ℕ
   pub call : c ≡ packet tuner t bytes
   pub lci : l .lci < 4
+
+-- what an update leaves in its slot on desk x: nothing where another timer has the new label, or else the timer with its new booking
+pub data Put (slot : ℕ) (b : Booking) (x : Desk) : Timer → Type 0 where
+  freed : some (λ t. active (x .clock) t && sameBooking b (t .booking)) (withTimer slot noTimer x .timers) ≡ true → Put slot b x noTimer
+  moved : some (λ t. active (x .clock) t && sameBooking b (t .booking)) (withTimer slot noTimer x .timers) ≡ false →
+      Put slot b x (record { booking = b; copy = timerAt x slot .copy })
 
 pub data Step (d : Desk) (c : Call) : Desk → Type 0 where
   -- it is refused, or only asks
@@ -45,6 +54,8 @@ pub data Step (d : Desk) (c : Call) : Desk → Type 0 where
       some (λ t. active (d .clock) t && sameBooking b (t .booking)) (d .timers) ≡ false → roomIn d ≡ at slot →
       Step d c (moment (withTimer slot (record { booking = b; copy = Waiting }) d))
   cancels : (slot : ℕ) → c ≡ cancel slot → Step d c (moment (withTimer slot noTimer d))
+  updates : {t : Timer} (slot : ℕ) (b : Booking) (a : Asks (moves slot b) c d) → Put slot b (passTo (a .t) d) t →
+      Step d c (moment (withTimer slot t (passTo (a .t) d)))
 
 -- ── what is given, if it is ────────────────────────────────────────────────────────────────────────────────────────
 abbrev Gives : {A : Type 0} → (A → Type 0) → Answer A → Type 0
@@ -75,9 +86,16 @@ gives-self (refused n) = tt
 gives-self (given y) = refl
 
 -- a label that is read has an LCI of two bits
-gives-lci : (p : List ℕ) → Gives (λ l. l .lci < 4) (readingOf p)
+abbrev Label-of : List ℕ → Label → Type 0
+Label-of p l = (readingOf p ≡ given l) × (l .lci < 4)
+
+gives-label : (p : List ℕ) → Gives (Label-of p) (readingOf p)
 unfolding readingOf
-gives-lci p = gives-first (λ l. l .lci < 4) (readerRows p) (labelIn p) λ k. omega (arith, bit-small 1 (valueAt p 9), bit-small 2 (valueAt p 9))
+gives-label p = both (readingOf p) refl (gives-first (λ l. l .lci < 4) (readerRows p) (labelIn p) λ k. omega (arith, bit-small 1 (valueAt p 9), bit-small 2 (valueAt p 9)))
+  where
+    both : (a : Answer Label) → readingOf p ≡ a → Gives (λ l. l .lci < 4) a → Gives (Label-of p) a
+    both (refused n) e k = tt
+    both (given l) e k = (e, k)
 
 -- neither before the clock nor past its end
 in-time : (d : Desk) (t : ℕ) → Passed (timeRows d t) → (d .clock ≤ t) × (t ≤ clockEnd)
@@ -100,14 +118,44 @@ module _ (d : Desk) (c : Call) where
   step-told (refused n) h = same
   step-told (given o) h = h
 
+  step-moves : (slot : ℕ) (b : Booking) (a : Asks (moves slot b) c d) → Step d c (moment (updated (moves slot b) (passTo (a .t) d)))
+  unfolding movedIn
+  step-moves slot b a =
+      let x = passTo (a .t) d in
+      by-test (some (λ t. active (x .clock) t && sameBooking b (t .booking)) (withTimer slot noTimer x .timers))
+      (λ e. rw e (updates slot b a (freed e)))
+      (λ e. rw e (updates slot b a (moved e)))
+
+  step-asks : (u : Update) (a : Asks u c d) → Step d c (updatingAt (a .t) u d)
+  unfolding updatingAt
+  step-asks repeats a = waits (a .t) (a .from) (a .to)
+  step-asks (moves slot b) a = step-moves slot b a
+
   step-packet : (tuner t : ℕ) (bytes : List ℕ) → c ≡ packet tuner t bytes → Gives (Step d c) (packetOf tuner t bytes d)
-  unfolding packetOf hearingAt
+  unfolding packetOf obeying updating hearingAt
   step-packet tuner t bytes e =
       let rows = tunerRows d tuner t in
-      gives-then (Step d c) (λ p. Passed rows) (firstOf rows bytes) _ (gives-first (λ p. Passed rows) rows bytes (λ k. k))
-      λ p k. gives-then (Step d c) (λ l. l .lci < 4) (readingOf p) _ (gives-lci p)
-      λ l r. gives-first (Step d c) (labelRows l) (moment (withLabel tuner l (passTo t d)))
-      λ u. let i = in-time d t (k .1) in hears tuner t l (record { bytes = bytes; call = e; lci = r }) (i .0) (i .1)
+      gives-then (Step d c) (λ p. (p ≡ bytes) × Passed rows) (firstOf rows bytes) _ (gives-first (λ p. (p ≡ bytes) × Passed rows) rows bytes (λ k. (refl, k)))
+      λ p k. gives-then (Step d c) (Label-of p) (readingOf p) _ (gives-label p)
+      λ l r.
+      let i = in-time d t (k .1 .1) in
+      by-test (flag (l .luf))
+      (λ f. let asked = updateFor t (standingAt tuner l d) l (d .timers) in
+      rw f (gives-then (Step d c) (λ u. asked ≡ given u) asked (λ u. given (updatingAt t u d)) (gives-self asked)
+      λ u g. step-asks u (record {
+        tuner = tuner;
+        t = t;
+        bytes = bytes;
+        label = l;
+        call = e;
+        four = ltb-false 3 tuner (k .1 .0);
+        from = i .0;
+        to = i .1;
+        read = rw (← k .0) (r .0);
+        luf = f;
+        asks = g;
+      })))
+      (λ f. rw f (hears tuner t l (record { bytes = bytes; call = e; lci = r .1 }) (i .0) (i .1)))
 
   step-wait : (t : ℕ) → Gives LeftBy (waitOf t d)
   unfolding waitOf

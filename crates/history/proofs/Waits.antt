@@ -6,23 +6,33 @@ use native.Mathlib.Decide.{decLt}
 use native.Mathlib.Omega.{arith}
 use borrow.Author.Tests.{lt-ltb, le-ltb}
 use lib.Dec.{ltb}
-use Rattle.answer.specs.Answer.{Answer, refused, given, Row, firstOf, andThen}
+use lib.ListN.{getD}
+use Rattle.answer.specs.Answer.{Answer, refused, given, firstOf, andThen}
+use Rattle.label.specs.declared.Label.{Label}
 use Rattle.label.specs.Packet.{readingOf}
 use Rattle.calendar.specs.Calendar.{clockEnd}
+use Rattle.places.specs.Places.{noLabel}
+use Rattle.moving.specs.Moving.{updateFor}
+use Rattle.moving.proofs.Update.{update-alike}
 use Rattle.desk.specs.declared.Desk.{Desk}
-use Rattle.desk.specs.Moments.{moment, walk, passTo, walkedIn, walkedTo}
-use Rattle.desk.specs.Calls.{tunerRows, withLabel, hearingAt, labelRows, packetOf, waitOf}
+use Rattle.desk.specs.Moments.{walk, passTo, walkedIn, walkedTo}
+use Rattle.desk.specs.Calls.{tunerRows, placeOf, hearingAt, updatingAt, updating, obeying, packetOf, waitOf}
 use Rattle.desk.proofs.Settle.{Settled, walk-settled}
-use Rattle.desk.proofs.Jump.{walk-add, walk-clock}
+use Rattle.desk.proofs.Jump.{walk-add, walk-clock, walk-places}
 use Rattle.history.specs.Run.{Call, wait, Done, outcome, left, said, deskAfter, answersOf}
 use Rattle.history.specs.Laws.{Each, told, toldInAll}
 use Rattle.history.proofs.Walked.{walkedIn-add}
+use Rattle.history.proofs.Alike.{keys-pass}
 
 -- ── passing the seconds in two parts ───────────────────────────────────────────────────────────────────────────────
 module _ (d : Desk) (u : ℕ) (from : d .clock ≤ u) where
   pub passTo-clock : passTo u d .clock ≡ u
   unfolding passTo
   passTo-clock = walk-clock (u - d .clock) d ∙ omega arith
+
+  pub passTo-places : passTo u d .places ≡ d .places
+  unfolding passTo
+  passTo-places = walk-places (u - d .clock) d
 
   pub passTo-settled : Settled d → Settled (passTo u d)
   unfolding passTo
@@ -100,13 +110,33 @@ module _ (us : List ℕ) (t : ℕ) (each : Each (λ u. u ≤ t) us) (end : t ≤
   cut later = (cut-desk, ap (answersOf later) cut-desk, parts-whole us t each end d s from .1)
 
 -- ── a wait before a packet ─────────────────────────────────────────────────────────────────────────────────────────
--- the packet's answer goes by its time's refusals and by the desk at its second
-heardBy : ℕ → List ℕ → List Row → Desk → Answer Desk
-heardBy tuner bytes rows e = andThen (firstOf rows bytes) (λ p. andThen (readingOf p) (λ l. firstOf (labelRows l) (moment (withLabel tuner l e))))
+then-alike : {A B : Type 0} (x : Answer A) {f g : A → Answer B} → ((a : A) → f a ≡ g a) → andThen x f ≡ andThen x g
+then-alike (refused n) h = refl
+then-alike (given a) h = h a
 
-packetOf-by : (tuner t : ℕ) (bytes : List ℕ) (d : Desk) → packetOf tuner t bytes d ≡ heardBy tuner bytes (tunerRows d tuner t) (passTo t d)
-unfolding packetOf hearingAt heardBy
-packetOf-by tuner t bytes d = refl
+module _ (d : Desk) (u t : ℕ) (from : d .clock ≤ u) (to : u ≤ t) where
+  -- what stands, and whom an update means, are as before the wait
+  update-cut : (tuner : ℕ) (l : Label) →
+      updateFor t (getD (passTo u d .places) (placeOf tuner l) noLabel) l (passTo u d .timers) ≡ updateFor t (getD (d .places) (placeOf tuner l) noLabel) l (d .timers)
+  update-cut tuner l =
+      ap (λ ls. updateFor t (getD ls (placeOf tuner l) noLabel) l (passTo u d .timers)) (passTo-places d u from)
+      ∙ update-alike t (getD (d .places) (placeOf tuner l) noLabel) (passTo u d .timers) (d .timers) (keys-pass u d) l
+
+  obeying-cut : (tuner : ℕ) (l : Label) → obeying tuner t l (passTo u d) ≡ obeying tuner t l d
+  unfolding obeying updating updatingAt hearingAt
+  obeying-cut tuner l = rw (update-cut tuner l, passTo-cut d u t from to)
+
+  rows-cut : (tuner : ℕ) → tunerRows (passTo u d) tuner t ≡ tunerRows d tuner t
+  rows-cut tuner =
+      let now : ltb t (passTo u d .clock) ≡ ltb t (d .clock) =
+      le-ltb t (passTo u d .clock) (omega (arith, passTo-clock d u from)) ∙ sym (le-ltb t (d .clock) (omega arith)) in
+      rw now
+
+  packet-cut : (tuner : ℕ) (bytes : List ℕ) → packetOf tuner t bytes (passTo u d) ≡ packetOf tuner t bytes d
+  unfolding packetOf
+  packet-cut tuner bytes =
+      ap (λ rows. andThen (firstOf rows bytes) (λ p. andThen (readingOf p) (λ l. obeying tuner t l (passTo u d)))) (rows-cut tuner)
+      ∙ then-alike (firstOf (tunerRows d tuner t) bytes) (λ p. then-alike (readingOf p) (obeying-cut tuner))
 
 pub wait-before : (u tuner t : ℕ) (bytes : List ℕ) (d : Desk) → Settled d → u ≤ t →
     packetOf tuner t bytes (deskAfter (wait u ∷ []) d) ≡ packetOf tuner t bytes d
@@ -116,9 +146,4 @@ wait-before u tuner t bytes d s h = go (waits u d s)
     go : {o : Answer Done} → Waits u d o → packetOf tuner t bytes (left d o) ≡ packetOf tuner t bytes d
     go (before k) = refl
     go (past k) = refl
-    go (passes k m) =
-        let now : ltb t (passTo u d .clock) ≡ ltb t (d .clock) =
-        le-ltb t (passTo u d .clock) (omega (arith, passTo-clock d u k)) ∙ sym (le-ltb t (d .clock) (omega arith)) in
-        packetOf-by tuner t bytes (passTo u d)
-        ∙ rw (passTo-cut d u t k h) (ap (λ x. heardBy tuner bytes ((ltb 3 tuner, 8) ∷ (x, 9) ∷ (ltb clockEnd t, 10) ∷ []) (passTo t d)) now)
-        ∙ sym (packetOf-by tuner t bytes d)
+    go (passes k m) = packet-cut d u t k h tuner bytes

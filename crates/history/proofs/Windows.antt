@@ -1,6 +1,6 @@
 -- When a timer's window is open, and when it has ended.
 use Prim.Native.Nat.{ℕ, _≤_, _<_}
-use mathlib.Core.Path.{_≡_, refl, sym, ap, _∙_}
+use mathlib.Core.Path.{_≡_, refl, sym, ap}
 use mathlib.Core.Bool.{true, false, _&&_, true≢false}
 use mathlib.Core.List.{List}
 use native.Mathlib.Omega.{arith}
@@ -10,12 +10,11 @@ use Rattle.answer.specs.Answer.{Answer, refused, given}
 use Rattle.calendar.specs.declared.Window.{Window}
 use Rattle.calendar.specs.Calendar.{windowIn}
 use Rattle.calendar.specs.Laws.{InWindow}
-use Rattle.answer.proofs.Cases.{by-test, both-true}
+use Rattle.answer.proofs.Cases.{both-true}
 use Rattle.calendar.proofs.Windows.{windowIn-given}
 use Rattle.places.specs.Places.{stands, labelsFail}
 use Rattle.matching.specs.Matching.{openIn, openAt, closedIn, endedAt, matches}
 use Rattle.clocked.specs.Clocked.{inLength, onTime, clocked}
-use Rattle.clocked.proofs.Parts.{clocked-parts}
 use Rattle.places.specs.declared.Stamped.{Stamped}
 use Rattle.matching.specs.declared.Booking.{Booking}
 
@@ -69,6 +68,3 @@ module _ (b : Booking) (s : ℕ) (ls : List Stamped) where
   pub is-clocked : labelsFail s ls (b .tuner) ≡ true → inLength s b ≡ true → openAt s b ≡ true → clocked s ls b ≡ true
   unfolding clocked onTime
   is-clocked f l o = rw (f, l, o)
-
-  pub ended-not-clocked : endedAt s b ≡ true → clocked s ls b ≡ false
-  ended-not-clocked e = by-test (clocked s ls b) (λ k. absurd (true≢false (sym e ∙ open-not-ended b s (clocked-parts s ls b k .2)))) (λ k. k)

@@ -1,7 +1,7 @@
--- Demand 3 (document 01, 'The second-by-second rule' and 'How tight the statements are'; 02, #101, #105 and #106). Proved in proofs/Proved.antt.
+-- Demand 3 (document 01, 'The second-by-second rule' and 'How tight the statements are'; 02, #101, #105, #106 and #107). Proved in proofs/Proved.antt.
 use Prim.Native.Nat.{ℕ, _+_, _-_, _≤_, _<_}
 use mathlib.Core.Path.{_≡_}
-use mathlib.Core.Bool.{Bool, true, false, _&&_}
+use mathlib.Core.Bool.{Bool, true, false, cond, _&&_}
 use mathlib.Core.List.{List, [], _∷_, _++_, map}
 use mathlib.Core.Logic.{_⊎_}
 use lib.Dec.{ltb, eqb}
@@ -13,7 +13,7 @@ use Rattle.calendar.specs.declared.Window.{Window}
 use Rattle.places.specs.Places.{noLabel, labelsFail}
 use Rattle.matching.specs.Matching.{openAt, matches, sightOf}
 use Rattle.clocked.specs.Clocked.{outOfRange, inLength, clocked}
-use Rattle.rule.specs.Rule.{recordingAt, nextCopy, held, isLive, liveTimer}
+use Rattle.rule.specs.Rule.{recordingAt, notLive, movesOr, nextCopy, nextTimer, held, isLive, liveTimer}
 use Rattle.places.specs.declared.Stamped.{Stamped}
 use Rattle.matching.specs.declared.Booking.{Booking}
 use Rattle.rule.specs.declared.Copy.{Copy}
@@ -21,12 +21,14 @@ use Rattle.rule.specs.declared.Copy.the-variants.{Free, Waiting, Prepared, Reco
 use Rattle.rule.specs.declared.Timer.{Timer}
 use Rattle.matching.specs.declared.Sight.the-variants.{Start}
 use Rattle.desk.specs.declared.Desk.{Desk}
-use Rattle.sixteen.specs.Sixteen.{active, sameBooking}
+use Rattle.sixteen.specs.Sixteen.{noTimer, active, sameBooking}
+use Rattle.moving.specs.Moving.{Update, repeats, moves, yearFor}
 use Rattle.desk.specs.Moments.{fresh, moment, walk, quiet, walkedIn, walkedTo, liveCount}
-use Rattle.desk.specs.Calls.{Told, packetOf, addOf, askOf, timerAt}
-use Rattle.history.specs.Run.{Call, packet, wait, add, cancel, deskAfter, answersOf, reached, accepted, givenOnes}
+use Rattle.desk.specs.Calls.{Told, updatingAt, packetOf, addOf, askOf, timerAt}
+use Rattle.history.specs.Run.{Call, packet, wait, add, outcome, deskAfter, answersOf, reached, accepted, givenOnes}
 use Rattle.history.specs.Prepared.{momentsIn, NoPrf0, OnlyPrf1, PreparedThenRecords, preparedSince}
 use Rattle.history.specs.Clock.{ClockRecords, Silent, LiveByTime}
+use Rattle.history.specs.Update.{standingAt, Asks, OtherHolds, Spares, AllSpare}
 
 abbrev pub Each : {A : Type 0} → (A → Type 0) → List A → Type 0
 Each P [] = Unit {0}
@@ -147,8 +149,9 @@ pub record Laws : Type 0 where
       Each (λ e. (i : ℕ) × (n : ℕ) × (e ≡ walk n (reached (cs ++ take i later)))) (momentsIn later (reached cs))
   -- no call passes the clock's end
   pub clock-within : (cs : List Call) → (reached cs) .clock ≤ clockEnd
-  -- a recording stays with its place while its own label stands there, whatever is heard elsewhere
-  pub stays : (cs : List Call) (c : Call) (slot place : ℕ) (mi : Bool) → (c ≡ cancel slot → ⊥) →
+  -- a recording stays with its place while its own label stands there, whatever is heard elsewhere, but for its cancelling and an accepted update
+  -- of its timer (02, #107)
+  pub stays : (cs : List Call) (c : Call) (slot place : ℕ) (mi : Bool) → Spares slot c (reached cs) →
       let d = reached cs in let e = deskAfter (c ∷ []) d in let b = timerAt d slot .booking in
       timerAt d slot .copy ≡ Recording place mi → matches (e .clock) b (getD (d .places) place noLabel) ≡ true →
       matches (e .clock) b (getD (e .places) place noLabel) ≡ true →
@@ -157,9 +160,9 @@ pub record Laws : Type 0 where
   pub starts : (s q : ℕ) (ls : List Stamped) (b : Booking) (c : Copy) (mi : Bool) → nextCopy s ls b c ≡ Recording q mi →
       (matches s b (getD ls q noLabel) ≡ true) × ((getD ls q noLabel .prf ≡ false) ⊎ (recordsAt q c ≡ true) ⊎ (longPrepared s c ≡ true))
   -- 'a timer that has been prepared without a break for more than 60 seconds now starts recording at the lowest place that matches': from every
-  -- call and every second that passes, whatever else is heard, while the timer is not cancelled
+  -- call and every second that passes, whatever else is heard, while the timer is neither cancelled nor updated
   pub after-60 : (cs : List Call) (n slot v : ℕ) (later : List Call) → let d = walk n (reached cs) in
-      timerAt d slot .copy ≡ Prepared v → Each (λ c. c ≡ cancel slot → ⊥) later →
+      timerAt d slot .copy ≡ Prepared v → AllSpare slot later d →
       PreparedThenRecords slot (timerAt d slot .booking) v (momentsIn later d)
   -- and nothing but a match of PRF 1, with none of PRF 0, makes or keeps a copy prepared, and nothing does where the clock records it
   pub prepares : (s v : ℕ) (ls : List Stamped) (b : Booking) (c : Copy) → nextCopy s ls b c ≡ Prepared v →
@@ -191,3 +194,40 @@ pub record Laws : Type 0 where
   -- else the clock 'comes before prepared, and before the start after its 60 seconds, and ends it': by `break` its second is lost
   pub clock-ends-prepared : (s v : ℕ) (ls : List Stamped) (b : Booking) → NoPrf0 s ls b → clocked s ls b ≡ true →
       nextCopy s ls b (Prepared v) ≡ ByTheClock
+  -- ── label updates (02, #107) ─────────────────────────────────────────────────────────────────────────────────────
+  -- what a packet with LUF 1 asks for is done, and tells no number
+  pub update-does : (u : Update) (c : Call) (d : Desk) (a : Asks u c d) → outcome c d ≡ given (record { tells = []; desk = updatingAt (a .t) u d })
+  -- 'a packet repeating the standing label is accepted and only moves the clock': it is exactly a wait to its second
+  pub repeat-waits : (c : Call) (d : Desk) (a : Asks repeats c d) → deskAfter (c ∷ []) d ≡ deskAfter (wait (a .t) ∷ []) d
+  -- a call that is refused leaves everything
+  pub refused-leaves : (c : Call) (d : Desk) (n : ℕ) → outcome c d ≡ refused n → deskAfter (c ∷ []) d ≡ d
+  -- an update leaves the clock, every place and every other slot as a wait to its second would
+  pub update-elsewhere : (c : Call) (d : Desk) (slot : ℕ) (b : Booking) (a : Asks (moves slot b) c d) →
+      let e = deskAfter (c ∷ []) d in let w = deskAfter (wait (a .t) ∷ []) d in
+      (e .clock ≡ w .clock) × (e .places ≡ w .places) × ((i : ℕ) → (i ≡ slot → ⊥) → timerAt e i ≡ timerAt w i)
+  -- the timer that it means is the only one that the standing label matches
+  pub update-only : (cs : List Call) (c : Call) (slot : ℕ) (b : Booking) (a : Asks (moves slot b) c (reached cs)) →
+      let d = reached cs in let old = standingAt (a .tuner) (a .label) d in
+      (i : ℕ) → held (timerAt d i .copy) ≡ true → matches (a .t) (timerAt d i .booking) old ≡ true → i ≡ slot
+  -- 'that timer takes the new CNI and PIL in its own year, or in the next year if the month goes from 12 to 1. It keeps its slot, home tuner and length'
+  pub update-takes : (c : Call) (d : Desk) (slot : ℕ) (b : Booking) (a : Asks (moves slot b) c d) →
+      let was = timerAt d slot .booking in
+      (b .cni ≡ a .label .cni) × (b .pil ≡ a .label .pil) × (b .year ≡ yearFor was (a .label .pil)) × (b .tuner ≡ was .tuner) × (b .length ≡ was .length)
+  -- its slot is free 'if another timer held the new label in that year', ..
+  pub update-twin : (c : Call) (d : Desk) (slot : ℕ) (b : Booking) (a : Asks (moves slot b) c d) → OtherHolds slot b (a .t) d →
+      timerAt (deskAfter (c ∷ []) d) slot ≡ noTimer
+  -- .. and else, whatever it was doing, its copy goes on at that second by the rule
+  pub update-moves : (cs : List Call) (c : Call) (slot : ℕ) (b : Booking) (a : Asks (moves slot b) c (reached cs)) →
+      (OtherHolds slot b (a .t) (reached cs) → ⊥) →
+      let e = deskAfter (c ∷ []) (reached cs) in let w = deskAfter (wait (a .t) ∷ []) (reached cs) in
+      timerAt e slot ≡ nextTimer (a .t) (w .places) (record { booking = b; copy = timerAt w slot .copy })
+  -- 'a recording under the old one leaves by the ordinary rule': to the lowest match with PRF 0 of the new label; else it runs on from that second,
+  -- or, where the remembered MI is 1, goes on in that moment as a timer that is not live. 'Where the new window isn't open yet, the copy ends at once
+  -- and the timer waits'
+  pub update-leaves : (cs : List Call) (c : Call) (slot place : ℕ) (mi : Bool) (b : Booking) (a : Asks (moves slot b) c (reached cs)) →
+      (OtherHolds slot b (a .t) (reached cs) → ⊥) →
+      let e = deskAfter (c ∷ []) (reached cs) in let w = deskAfter (wait (a .t) ∷ []) (reached cs) in
+      let seen = sightOf (a .t) (w .places) b in
+      timerAt w slot .copy ≡ Recording place mi →
+      timerAt e slot .copy
+      ≡ cond (openAt (a .t) b) (movesOr (w .places) seen (cond mi (notLive (a .t) (w .places) b seen) (RunningOn place (a .t)))) Waiting

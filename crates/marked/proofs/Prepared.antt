@@ -1,13 +1,12 @@
 -- Example 11 for every second, places and booking: what a timer sees where each match has PRF 1, and what it becomes.
 use Prim.Native.Nat.{ℕ, _+_, _-_, _≤_}
 use mathlib.Core.Path.{_≡_, refl, _∙_}
-use mathlib.Core.Bool.{false}
+use mathlib.Core.Bool.{true, false}
 use mathlib.Core.List.{List, [], _∷_}
 use native.Mathlib.Omega.{arith}
 use borrow.Author.Tests.{le-ltb}
 use Rattle.places.specs.Places.{labelsFail}
-use Rattle.matching.specs.Matching.{endedAt, sightOf}
-use Rattle.clocked.specs.Clocked.{clocked}
+use Rattle.matching.specs.Matching.{openAt, sightOf}
 use Rattle.clocked.proofs.Parts.{clocked-labelled}
 use Rattle.rule.specs.Rule.{clockOr, notLive, prepareFor, movesOr, fromRecording, runFor, fromRunningOn, nextCopy, isLive}
 use Rattle.places.specs.declared.Stamped.{Stamped}
@@ -21,8 +20,9 @@ use Rattle.desk.specs.declared.Desk.{Desk}
 use Rattle.desk.specs.Moments.{walk}
 use Rattle.desk.specs.Calls.{timerAt}
 use Rattle.desk.proofs.Settle.{nextCopy-open}
-use Rattle.history.proofs.Windows.{open-not-ended, matches-open}
-use Rattle.history.specs.Run.{Call, cancel, reached}
+use Rattle.history.proofs.Windows.{matches-open}
+use Rattle.history.specs.Run.{Call, reached}
+use Rattle.history.specs.Update.{AllSpare}
 use Rattle.history.specs.Prepared.{momentsIn, NoPrf0, OnlyPrf1, PreparedThenRecords}
 use Rattle.history.specs.Laws.{Each}
 use Rattle.history.proofs.Sees.{no-start, sees-prepare}
@@ -52,8 +52,8 @@ module _ (s : ℕ) (ls : List Stamped) (b : Booking) (none : NoPrf0 s ls b) wher
 
 -- ── a match of PRF 1 only ──────────────────────────────────────────────────────────────────────────────────────────
 module _ (s : ℕ) (ls : List Stamped) (b : Booking) (h : OnlyPrf1 s ls b) (labelled : labelsFail s ls (b .tuner) ≡ false) where
-  not-ended : endedAt s b ≡ false
-  not-ended = open-not-ended b s (matches-open b s _ (h .matching))
+  opened : openAt s b ≡ true
+  opened = matches-open b s _ (h .matching)
 
   -- the clock does not record it
   not-clocked : (next : Copy) → clockOr s ls b next ≡ next
@@ -66,9 +66,9 @@ module _ (s : ℕ) (ls : List Stamped) (b : Booking) (h : OnlyPrf1 s ls b) (labe
   prepares by-clock = next-by-clock s ls b ∙ rw (sees-prepare s ls b h .1) (not-clocked (Prepared s))
   prepares (is-prepared v k) =
       next-prepared s ls b v ∙ rw (sees-prepare s ls b h .1, le-ltb prepareFor (s - v) (omega arith)) (not-clocked (Prepared v))
-  prepares (recorded p m) = nextCopy-open s ls b not-ended _ ∙ rw (m, sees-prepare s ls b h .1) (not-clocked (Prepared s))
+  prepares (recorded p m) = nextCopy-open s ls b opened _ ∙ rw (m, sees-prepare s ls b h .1) (not-clocked (Prepared s))
   prepares (ran-on p v k) =
-      nextCopy-open s ls b not-ended _ ∙ rw (le-ltb (s - v) runFor (omega arith), sees-prepare s ls b h .1) (not-clocked (Prepared s))
+      nextCopy-open s ls b opened _ ∙ rw (le-ltb (s - v) runFor (omega arith), sees-prepare s ls b h .1) (not-clocked (Prepared s))
 
 -- ── up to v+60 ─────────────────────────────────────────────────────────────────────────────────────────────────────
 each-prepared : (slot v : ℕ) (b : Booking) (es : List Desk) → Each (λ e. (e .clock ≤ v + 60) × OnlyPrf1 (e .clock) (e .places) b × Labelled b e) es →
@@ -78,7 +78,7 @@ each-prepared slot v b (e ∷ es) h k =
     let now = k (h .0 .1) (clocked-labelled (e .clock) (e .places) b (h .0 .2)) .0 (h .0 .0) in ((rw (now .0), rw (now .0)), each-prepared slot v b es (h .1) (now .1))
 
 pub prepared-to-60 : (cs : List Call) (n slot v : ℕ) (later : List Call) → let d = walk n (reached cs) in
-    timerAt d slot .copy ≡ Prepared v → Each (λ c. c ≡ cancel slot → ⊥) later →
+    timerAt d slot .copy ≡ Prepared v → AllSpare slot later d →
     Each (λ e. (e .clock ≤ v + 60) × OnlyPrf1 (e .clock) (e .places) (timerAt d slot .booking) × Labelled (timerAt d slot .booking) e)
     (momentsIn later d) →
     Each (IsPrepared slot v) (momentsIn later d)

@@ -1,7 +1,7 @@
 -- Example 9 for every desk, slot, place and second, through later calls: RI/T over a recording.
 use Prim.Native.Nat.{ℕ, zero, suc, _+_, _-_, _≤_}
 use mathlib.Core.Path.{_≡_, refl, sym, _∙_}
-use mathlib.Core.Bool.{Bool, true, false, cond, _&&_, true≢false}
+use mathlib.Core.Bool.{Bool, true, false, true≢false}
 use mathlib.Core.List.{List, [], _∷_}
 use mathlib.Core.Logic.{_⊎_, inl, inr}
 use native.Mathlib.Omega.{arith}
@@ -10,18 +10,17 @@ use borrow.Author.Tests.{lt-ltb, le-ltb, ltb-false, eqb-true, eqb-false}
 use lib.Dec.{eqb}
 use lib.ListN.{getD, set}
 use Rattle.answer.specs.Answer.{Answer, refused, given, firstOf, andThen}
-use Rattle.answer.proofs.Cases.{by-test, both-true}
+use Rattle.answer.proofs.Cases.{by-test}
 use Rattle.label.specs.declared.Label.{Label}
-use Rattle.label.specs.declared.pil.Service.the-variants.{Programme, InhibitTerminate, NoSpecificValue}
+use Rattle.label.specs.declared.pil.Service.the-variants.{Programme, InhibitTerminate}
 use Rattle.label.specs.Packet.{readingOf}
-use Rattle.label.specs.Pil.{twentyBits, dayOf, monthOf, hourOf, minuteOf, serviceAt, noSpecificValue, serviceOf}
+use Rattle.label.specs.Pil.{serviceOf}
 use Rattle.answer.proofs.Every.{accepted}
-use Rattle.calendar.specs.declared.Window.{Window}
-use Rattle.calendar.specs.Calendar.{windowIn, realIn}
-use Rattle.calendar.proofs.Windows.{realIn-parts, windowIn-given}
-use Rattle.places.specs.Places.{noLabel, stands, stamped, heardAt, labelsFail}
-use Rattle.matching.specs.Matching.{openIn, openAt, endedAt, matches, sightOf}
+use Rattle.places.specs.Places.{noLabel, flag, stands, stamped, heardAt, labelsFail}
+use Rattle.matching.specs.Matching.{openAt, endedAt, matches, sightOf}
+use Rattle.matching.proofs.Codes.{codes-match-nothing}
 use Rattle.clocked.proofs.Parts.{clocked-labelled}
+use Rattle.moving.proofs.Update.{codes-refused}
 use Rattle.rule.specs.Rule.{clockOr, fromRecording, runFor, fromRunningOn, nextCopy, nextTimer, byLabels, liveTimer}
 use Rattle.places.specs.declared.Stamped.{Stamped}
 use Rattle.matching.specs.declared.Booking.{Booking}
@@ -31,53 +30,27 @@ use Rattle.matching.specs.declared.Sight.{Sight}
 use Rattle.matching.specs.declared.Sight.the-variants.{Nothing, Prepare, Start}
 use Rattle.desk.specs.declared.Desk.{Desk}
 use Rattle.desk.specs.Moments.{moment, passTo}
-use Rattle.desk.specs.Calls.{tunerRows, withLabel, hearingAt, labelRows, packetOf, timerAt}
+use Rattle.desk.specs.Calls.{tunerRows, placeOf, withLabel, hearingAt, updating, obeying, packetOf, timerAt}
 use Rattle.desk.proofs.Settle.{nextCopy-open, start-matches, prepare-matches, moment-settled}
 use Rattle.desk.proofs.Jump.{timerAt-moment}
 use Rattle.history.proofs.Waits.{passTo-clock}
 use Rattle.history.proofs.Windows.{open-not-ended}
-use Rattle.history.specs.Run.{Call, cancel}
+use Rattle.history.specs.Run.{Call}
+use Rattle.history.specs.Update.{AllSpare}
 use Rattle.history.specs.Prepared.{momentsIn, NoPrf0}
-use Rattle.history.specs.Laws.{Each}
 use Rattle.history.proofs.Next.{next-is, next-held}
 use Rattle.history.proofs.Chain.{Chain, chain-calls}
-use Rattle.history.proofs.Prepared.{Has, goes-to}
+use Rattle.history.proofs.Prepared.{Has, goes-to, all-touch}
 use Rattle.history.proofs.Silent.{next-unheard}
 use Rattle.marked.specs.Marked.{Terminated, NothingElse, Labelled, Undisturbed, RunsOut}
 use Rattle.marked.proofs.Prepared.{moves-not, starts-not}
 
 -- ── RI/T matches no timer ──────────────────────────────────────────────────────────────────────────────────────────
--- a PIL whose window is open is real
-open-real : (s : ℕ) (b : Booking) → openAt s b ≡ true → realIn (b .pil) (b .year) ≡ true
-unfolding openAt
-open-real s b e = go (windowIn (b .pil) (b .year)) refl e
-  where
-    go : (a : Answer Window) → windowIn (b .pil) (b .year) ≡ a → openIn s a ≡ true → realIn (b .pil) (b .year) ≡ true
-    go (refused n) w e = absurd (true≢false (sym e))
-    go (given x) w e = windowIn-given (b .pil) (b .year) x w .2
-
--- and the code is not, by its minute
-code-minute : (pil : ℕ) → serviceOf pil ≡ InhibitTerminate → minuteOf pil ≡ 63
-unfolding serviceOf
-code-minute pil e =
-    let code = twentyBits pil && eqb (dayOf pil) 0 && eqb (monthOf pil) 15 in
-    eqb-true (minuteOf pil) 63 (both-true code (eqb (minuteOf pil) 63) (go (eqb pil noSpecificValue) (code && eqb (minuteOf pil) 63) e) .1)
-  where
-    go : (x y : Bool) → cond x NoSpecificValue (cond y (serviceAt (hourOf pil)) Programme) ≡ InhibitTerminate → y ≡ true
-    go true y e = cc
-    go false true e = refl
-    go false false e = cc
+no-programme : (pil : ℕ) → serviceOf pil ≡ InhibitTerminate → serviceOf pil ≡ Programme → ⊥
+no-programme pil code e = absurd (let z : _≡_ {A = ℕ} 0 1 = cc in omega arith)
 
 code-matches-not : (s : ℕ) (b : Booking) (l : Stamped) → serviceOf (l .pil) ≡ InhibitTerminate → matches s b l ≡ false
-unfolding matches
-code-matches-not s b l code = by-test (matches s b l) (λ m. absurd (no-match m)) (λ e. e)
-  where
-    no-match : matches s b l ≡ true → ⊥
-    no-match m =
-        let x = both-true (stands s l && eqb (l .cni) (b .cni) && eqb (l .pil) (b .pil)) (openAt s b) m in
-        let same : l .pil ≡ b .pil = eqb-true (l .pil) (b .pil) (both-true (stands s l && eqb (l .cni) (b .cni)) _ (x .0) .1) in
-        let minute : minuteOf (b .pil) ≡ 63 = code-minute (b .pil) (rw same at code) in
-        omega (arith, realIn-parts (b .pil) (b .year) (open-real s b (x .1)) .2)
+code-matches-not s b l code = codes-match-nothing s b l (no-programme (l .pil) code)
 
 -- ── what an accepted packet leaves ─────────────────────────────────────────────────────────────────────────────────
 -- what is stored at a place stands there, if there is such a place
@@ -90,15 +63,24 @@ then-given : {A B : Type 0} (x : Answer A) (next : A → Answer B) (c : B) → a
 then-given (refused n) next c e = absurd (let z : _≡_ {A = ℕ} 0 1 = cc in omega arith)
 then-given (given a) next c e = (a, refl, e)
 
-packet-given : (tuner t : ℕ) (bytes : List ℕ) (l : Label) (d e : Desk) → readingOf bytes ≡ given l → packetOf tuner t bytes d ≡ given e →
-    (d .clock ≤ t) × (e ≡ moment (withLabel tuner l (passTo t d)))
+-- with LUF 1 a code is never accepted
+code-heard : (tuner t : ℕ) (l : Label) (d e : Desk) → serviceOf (l .pil) ≡ InhibitTerminate → obeying tuner t l d ≡ given e → e ≡ hearingAt tuner t l d
+unfolding obeying updating
+code-heard tuner t l d e code g =
+    by-test (flag (l .luf))
+    (λ f. let k = rw (f, codes-refused t (getD (d .places) (placeOf tuner l) noLabel) l (d .timers) (no-programme (l .pil) code)) at g in
+    absurd (let z : _≡_ {A = ℕ} 0 1 = cc in omega arith))
+    (λ f. let k = rw f at g in cc)
+
+packet-given : (tuner t : ℕ) (bytes : List ℕ) (l : Label) (d e : Desk) → serviceOf (l .pil) ≡ InhibitTerminate → readingOf bytes ≡ given l →
+    packetOf tuner t bytes d ≡ given e → (d .clock ≤ t) × (e ≡ moment (withLabel tuner l (passTo t d)))
 unfolding packetOf hearingAt
-packet-given tuner t bytes l d e r g =
+packet-given tuner t bytes l d e code r g =
     let x = then-given (firstOf (tunerRows d tuner t) bytes) _ e g in
     let gate = accepted bytes (x .0) (tunerRows d tuner t) (x .1) in
     let y = then-given (readingOf (x .0)) _ e (x .2) in
     let same : l ≡ y .0 = let z : readingOf (x .0) ≡ given l = rw (← gate .1) r in cc in
-    (ltb-false t (d .clock) (gate .0 .1 .0), rw same (sym (accepted _ e (labelRows (y .0)) (y .2) .1)))
+    (ltb-false t (d .clock) (gate .0 .1 .0), code-heard tuner t l d e code (rw same (y .2)))
 
 -- ── the moments of a run-on ────────────────────────────────────────────────────────────────────────────────────────
 module _ (t slot p : ℕ) (b : Booking) where
@@ -131,19 +113,19 @@ module _ (t slot p : ℕ) (b : Booking) where
     abbrev next : Copy
     next = nextCopy (e .clock) (e .places) b (RunningOn p t)
 
-    open-e : endedAt (e .clock) b ≡ false
-    open-e = open-not-ended b (e .clock) (u .open-window)
+    lasts-e : endedAt (e .clock) b ≡ false
+    lasts-e = open-not-ended b (e .clock) (u .open-window)
 
     runs-still : e .clock ≤ t + 29 → next ≡ RunningOn p t
     unfolding fromRunningOn
     runs-still l =
-        nextCopy-open (e .clock) (e .places) b open-e (RunningOn p t)
+        nextCopy-open (e .clock) (e .places) b (u .open-window) (RunningOn p t)
         ∙ rw (moves-not (e .clock) (e .places) b (none-starts-at e u), lt-ltb (e .clock - t) runFor (omega arith))
 
     run-over : t + 30 ≤ e .clock → next ≡ Waiting
     unfolding fromRunningOn clockOr
     run-over l =
-        nextCopy-open (e .clock) (e .places) b open-e (RunningOn p t)
+        nextCopy-open (e .clock) (e .places) b (u .open-window) (RunningOn p t)
         ∙ rw (
           nothing-seen e u,
           le-ltb (e .clock - t) runFor (omega arith),
@@ -155,10 +137,10 @@ module _ (t slot p : ℕ) (b : Booking) where
   runs-out (e ∷ es) d h k r = λ u. elim (decLe (e .clock) (t + 29)) [
     | yes l ↦
         let at-e = goes-to slot b d e h (r .0) (runs-still e u l) in
-        (λ m. rw at-e, λ m. absurd (omega arith), runs-out es e (record { timer = at-e; lasts = open-e e u; held-now = refl }) l (r .1))
+        (λ m. rw at-e, λ m. absurd (omega arith), runs-out es e (record { timer = at-e; lasts = lasts-e e u; held-now = refl }) l (r .1))
     | no l ↦
         let at-e = goes-to slot b d e h (r .0) (run-over e u (omega arith)) in
-        (λ m. absurd (omega arith), λ m. rw at-e, over es e Waiting (record { timer = at-e; lasts = open-e e u; held-now = refl }) refl (omega arith) (r .1))
+        (λ m. absurd (omega arith), λ m. rw at-e, over es e Waiting (record { timer = at-e; lasts = lasts-e e u; held-now = refl }) refl (omega arith) (r .1))
   ]
 
 -- ── RI/T at t ──────────────────────────────────────────────────────────────────────────────────────────────────────
@@ -168,7 +150,7 @@ module _ (t slot p : ℕ) (b : Booking) (mi : Bool) (d : Desk) (h : Terminated t
   then = passTo t (h .before)
 
   left : (h .before .clock ≤ t) × (d ≡ moment (withLabel (h .tuner) (h .label) then))
-  left = packet-given (h .tuner) t (h .bytes) (h .label) (h .before) d (h .read) (h .accepted)
+  left = packet-given (h .tuner) t (h .bytes) (h .label) (h .before) d (h .code) (h .read) (h .accepted)
 
   clock-then : then .clock ≡ t
   clock-then = passTo-clock (h .before) t (left .0)
@@ -202,7 +184,7 @@ module _ (t slot p : ℕ) (b : Booking) (mi : Bool) (d : Desk) (h : Terminated t
   stops one none labelled =
       let n = none-starts t none in
       let l : labelsFail t (d .places) (b .tuner) ≡ false = rw clock-now at labelled in
-      rw copy-now (by-test (endedAt t b) (λ e. rw e) (λ e. rw (e, leaves t, one, moves-not t (d .places) b n) (starts-not t (d .places) b n l)))
+      rw copy-now (by-test (openAt t b) (λ e. rw (e, leaves t, one, moves-not t (d .places) b n) (starts-not t (d .places) b n l)) (λ e. rw e))
 
 -- with MI 0
 module _ (t slot p : ℕ) (b : Booking) (d : Desk) (h : Terminated t slot p b false d) (none : NothingElse t p b d) (opened : openAt t b ≡ true) where
@@ -214,15 +196,15 @@ module _ (t slot p : ℕ) (b : Booking) (d : Desk) (h : Terminated t slot p b fa
   runs-first =
       copy-now t slot p b false d h
       ∙ rw (
-        nextCopy-open t (d .places) b lasts-now (Recording p false),
+        nextCopy-open t (d .places) b opened (Recording p false),
         leaves t slot p b false d h t,
         moves-not t (d .places) b (none-starts t slot p b false d h t none),
       )
 
-  pub runs : (later : List Call) → Each (λ c. c ≡ cancel slot → ⊥) later → (liveTimer (timerAt d slot) ≡ true) × RunsOut t slot b (momentsIn later d)
+  pub runs : (later : List Call) → AllSpare slot later d → (liveTimer (timerAt d slot) ≡ true) × RunsOut t slot b (momentsIn later d)
   runs later kept =
       let now = clock-now t slot p b false d h in (
         rw runs-first,
         runs-out t slot p b (momentsIn later d) d (record { timer = runs-first; lasts = rw now lasts-now; held-now = refl }) (omega arith)
-            (chain-calls slot ⊥ later d (rw (left t slot p b false d h .1) (moment-settled _)) kept),
+            (chain-calls slot ⊥ later d (rw (left t slot p b false d h .1) (moment-settled _)) (all-touch slot later d kept)),
       )

@@ -25,7 +25,8 @@ use Rattle.desk.specs.Moments.{fresh, walk, passTo, liveCount}
 use Rattle.reply.specs.Numbers.{Says}
 use Rattle.desk.specs.Calls.{placeOf, packetOf, timerAt, askOf}
 use Rattle.sheet.specs.Sheet.{sheetOf}
-use Rattle.history.specs.Run.{Call, packet, wait, add, cancel, ask, live, answersOf, reached}
+use Rattle.history.specs.Update.{AllSpare}
+use Rattle.history.specs.Run.{Call, packet, wait, add, ask, live, answersOf, reached}
 use Rattle.history.specs.Prepared.{momentsIn, OnlyPrf1}
 use Rattle.history.specs.Laws.{Each}
 
@@ -320,9 +321,9 @@ pub record Marked : Type 0 where
   -- 8. 'a label stamped t stands at t+5, not at t+6'
   pub eight : (t : ℕ) (l : Stamped) → StampedAt t l → (stands (t + 5) l ≡ true) × (stands (t + 6) l ≡ false)
   -- 9. 'RI/T at t over a recording with MI 0, nothing else matching and the window open throughout: live at t+29, not at t+30', 'with a label, and
-  -- no timer-control, standing on the home tuner throughout', whatever else is heard, while the timer is not cancelled
+  -- no timer-control, standing on the home tuner throughout', whatever else is heard, while the timer is neither cancelled nor updated
   pub nine : (t slot p : ℕ) (b : Booking) (d : Desk) (later : List Call) → Terminated t slot p b false d →
-      NothingElse t p b d → openAt t b ≡ true → Each (λ c. c ≡ cancel slot → ⊥) later →
+      NothingElse t p b d → openAt t b ≡ true → AllSpare slot later d →
       (liveTimer (timerAt d slot) ≡ true) × RunsOut t slot b (momentsIn later d)
   -- 'with MI 1 not live at t'
   pub nine-mi-1 : (t slot p : ℕ) (b : Booking) (d : Desk) → Terminated t slot p b true d → NothingElse t p b d → Labelled b d →
@@ -338,9 +339,9 @@ pub record Marked : Type 0 where
       labelsFail s ls (b .tuner) ≡ false →
       (nextCopy s ls b c ≡ Prepared v) × (isLive (nextCopy s ls b c) ≡ false)
   -- .. and 'example 11 holds up to 60 seconds': with such a match kept standing, at every moment up to v+60, whatever else is heard, while the
-  -- timer is not cancelled; v is t where it became prepared at t
+  -- timer is neither cancelled nor updated; v is t where it became prepared at t
   pub eleven-to-60 : (cs : List Call) (n slot v : ℕ) (later : List Call) → let d = walk n (reached cs) in
-      timerAt d slot .copy ≡ Prepared v → Each (λ c. c ≡ cancel slot → ⊥) later →
+      timerAt d slot .copy ≡ Prepared v → AllSpare slot later d →
       Each (λ e. (e .clock ≤ v + 60) × OnlyPrf1 (e .clock) (e .places) (timerAt d slot .booking) × Labelled (timerAt d slot .booking) e)
       (momentsIn later d) →
       Each (IsPrepared slot v) (momentsIn later d)

@@ -17,7 +17,7 @@ use Rattle.matching.specs.declared.Booking.{Booking}
 use Rattle.matching.proofs.Sights.{match-named, named-other}
 
 -- a code has minute 63
-real-programme : (pil year : ℕ) → realIn pil year ≡ true → serviceOf pil ≡ Programme
+pub real-programme : (pil year : ℕ) → realIn pil year ≡ true → serviceOf pil ≡ Programme
 unfolding serviceOf
 real-programme pil year r =
     let m : minuteOf pil ≤ 59 = realIn-parts pil year r .2 in

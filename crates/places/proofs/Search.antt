@@ -1,7 +1,7 @@
 -- A loop that searches a list: what is found from i on, over what is left from i on, at each turn and at the end.
-use Prim.Native.Nat.{ℕ, suc, _+_, _≤_, _<_}
+use Prim.Native.Nat.{ℕ, suc, _+_, _-_, _≤_, _<_}
 use mathlib.Core.Path.{_≡_, refl, sym, ap, _∙_}
-use mathlib.Core.Bool.{Bool, true, false}
+use mathlib.Core.Bool.{Bool, true, false, cond}
 use mathlib.Core.List.{List, [], _∷_}
 use native.Mathlib.Omega.{arith}
 use native.Mathlib.Numerals.{add-one}
@@ -55,3 +55,23 @@ module _ {A : Type 0} (f : A → Bool) where
 
       pub some-missed : false ≡ some f xs
       some-missed = sym (some-lowest 0 xs ∙ ap isAt none)
+
+-- ── what is found passes ───────────────────────────────────────────────────────────────────────────────────────────
+abbrev Passes : {A : Type 0} → (A → Bool) → A → ℕ → List A → Found → Type 0
+Passes f z i xs nowhere = Unit {0}
+Passes f z i xs (at q) = (i ≤ q) × (f (getD xs (q - i) z) ≡ true)
+
+passes-next : {A : Type 0} (f : A → Bool) (z x : A) (i : ℕ) (xs : List A) (r : Found) → Passes f z (suc i) xs r → Passes f z i (x ∷ xs) r
+passes-next f z x i xs nowhere h = tt
+passes-next f z x i xs (at q) h = let e : q - i ≡ suc (q - suc i) = omega arith in (omega arith, rw e (h .1))
+
+found-passes : {A : Type 0} (f : A → Bool) (z : A) (i : ℕ) (xs : List A) → Passes f z i xs (lowestFrom f i xs)
+found-passes f z i [] = tt
+found-passes f z i (x ∷ xs) = go (f x) refl (found-passes f z (suc i) xs)
+  where
+    go : (b : Bool) → f x ≡ b → Passes f z (suc i) xs (lowestFrom f (suc i) xs) → Passes f z i (x ∷ xs) (cond b (at i) (lowestFrom f (suc i) xs))
+    go true e h = let d : i - i ≡ 0 = omega arith in (omega arith, rw d e)
+    go false e h = passes-next f z x i xs (lowestFrom f (suc i) xs) h
+
+pub lowest-passes : {A : Type 0} (f : A → Bool) (z : A) (xs : List A) (q : ℕ) → lowest f xs ≡ at q → f (getD xs q z) ≡ true
+lowest-passes f z xs q e = let d : q - 0 ≡ q = omega arith in rw (e, d) at (found-passes f z 0 xs) .1

@@ -26,7 +26,9 @@ unread n =
 packetRefused : ℕ → PacketRefusal
 packetRefused n =
     cond (eqb n 7) PacketRefusal.Update
-    (cond (eqb n 8) PacketRefusal.Tuner (cond (eqb n 9) PacketRefusal.Before (cond (eqb n 10) PacketRefusal.Past (unread n))))
+    (cond (eqb n 11) PacketRefusal.NotReal
+    (cond (eqb n 12) PacketRefusal.Ended
+    (cond (eqb n 8) PacketRefusal.Tuner (cond (eqb n 9) PacketRefusal.Before (cond (eqb n 10) PacketRefusal.Past (unread n))))))
 
 pub packetBack : ℕ → PacketAnswer
 packetBack n = cond (eqb n 0) PacketAnswer.Done (PacketAnswer.Refused (packetRefused n))
@@ -38,6 +40,8 @@ packet-back (PacketAnswer.Refused PacketRefusal.Tuner) = refl
 packet-back (PacketAnswer.Refused PacketRefusal.Before) = refl
 packet-back (PacketAnswer.Refused PacketRefusal.Past) = refl
 packet-back (PacketAnswer.Refused PacketRefusal.Update) = refl
+packet-back (PacketAnswer.Refused PacketRefusal.NotReal) = refl
+packet-back (PacketAnswer.Refused PacketRefusal.Ended) = refl
 packet-back (PacketAnswer.Refused (PacketRefusal.Unread Length)) = refl
 packet-back (PacketAnswer.Refused (PacketRefusal.Unread AddressDamaged)) = refl
 packet-back (PacketAnswer.Refused (PacketRefusal.Unread OtherPacket)) = refl

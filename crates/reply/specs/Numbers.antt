@@ -11,13 +11,16 @@ use Rattle.reply.specs.declared.State.{State}
 use Rattle.reply.specs.declared.AskAnswer.{AskAnswer}
 use Rattle.reply.specs.declared.SecondAnswer.{SecondAnswer}
 
--- 8 tuner above 3, 9 time before the clock, 10 time past the clock's end, 1 to 6 the reader's, 7 LUF is 1
+-- 8 tuner above 3, 9 time before the clock, 10 time past the clock's end, 1 to 6 the reader's; of a packet with LUF 1 (02, #107): 7 no standing
+-- label there matches a timer, 11 the new label is not real, 12 its window has ended
 abbrev pub packetRefusal : PacketRefusal → ℕ
 packetRefusal PacketRefusal.Tuner = 8
 packetRefusal PacketRefusal.Before = 9
 packetRefusal PacketRefusal.Past = 10
 packetRefusal (PacketRefusal.Unread r) = refusalNumber r
 packetRefusal PacketRefusal.Update = 7
+packetRefusal PacketRefusal.NotReal = 11
+packetRefusal PacketRefusal.Ended = 12
 
 abbrev pub packetNumber : PacketAnswer → ℕ
 packetNumber (PacketAnswer.Refused r) = packetRefusal r

@@ -5,13 +5,15 @@ ghost use Rattle.answer.specs.Answer.{number};
 ghost use Rattle.reply.specs.Numbers.{packetRefusal, packetNumber, waitAnswer, addAnswer, cancelNumber, stateSays, askAnswer, secondNumber};
 ghost use Rattle.reply.specs.Laws.{Laws};
 
-// Why a packet is not heard: refusals 8, 9, 10, those of the reader, 7.
+// Why a packet is not heard: refusals 8, 9, 10, those of the reader, 7, 11, 12.
 pub enum PacketRefusal {
     Tuner,
     Before,
     Past,
     Unread(label::Refusal),
     Update,
+    NotReal,
+    Ended,
 }
 
 impl PacketRefusal {
@@ -25,6 +27,8 @@ impl PacketRefusal {
             PacketRefusal::Past => 10,
             PacketRefusal::Unread(r) => r.number(),
             PacketRefusal::Update => 7,
+            PacketRefusal::NotReal => 11,
+            PacketRefusal::Ended => 12,
         }
     }
 }

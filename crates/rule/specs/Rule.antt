@@ -1,7 +1,7 @@
 -- The second-by-second rule (document 01, amended by 02) for one timer: how its copy goes on. A second is a number of the clock; a place is a
 -- number from 0 to 15.
 use Prim.Native.Nat.{ℕ, _-_}
-use mathlib.Core.Bool.{Bool, true, false, cond, _&&_}
+use mathlib.Core.Bool.{Bool, true, false, cond, not, _&&_}
 use mathlib.Core.List.{List}
 use lib.Dec.{ltb}
 use lib.ListN.{getD}
@@ -13,7 +13,7 @@ use Rattle.rule.specs.declared.Timer.{Timer}
 use Rattle.matching.specs.declared.Sight.{Sight}
 use Rattle.matching.specs.declared.Sight.the-variants.{Nothing, Prepare, Start}
 use Rattle.places.specs.Places.{noLabel}
-use Rattle.matching.specs.Matching.{endedAt, matches, sightOf}
+use Rattle.matching.specs.Matching.{openAt, matches, sightOf}
 use Rattle.clocked.specs.Clocked.{clocked}
 
 -- ── Moments: how a copy goes on at second s ────────────────────────────────────────────────────────────────────────
@@ -85,9 +85,10 @@ held (Recording p mi) = true
 held (RunningOn p v) = true
 held ByTheClock = true
 
--- 'a closed window comes before all of these: it ends a recording or run-on at once'
+-- 'a closed window comes before all of these: it ends a recording or run-on at once'; and 'where the new window isn't open yet, the copy ends at
+-- once and the timer waits' (02, #107), so that a closed window is one that is not open
 unfoldable pub nextCopy : ℕ → List Stamped → Booking → Copy → Copy
-nextCopy s ls b c = cond (held c && endedAt s b) Waiting (goesOn s ls b c)
+nextCopy s ls b c = cond (held c && not (openAt s b)) Waiting (goesOn s ls b c)
 
 unfoldable pub nextTimer : ℕ → List Stamped → Timer → Timer
 nextTimer s ls t = record { booking = t .booking; copy = nextCopy s ls (t .booking) (t .copy) }

@@ -12,7 +12,7 @@ use matching::Booking;
 use matching::Sight;
 use matching::seeing::matches;
 use matching::seeing::sight_of;
-use matching::windows::ended_at;
+use matching::windows::open_at;
 use places::Stamped;
 use places::failing::labels_fail;
 use places::label_at;
@@ -81,8 +81,8 @@ fn moves_or(places: [Stamped; 16], seen: Sight, next: Copy) -> Copy
     }
 }
 
-// 'A closed window comes before all of these: it ends a recording or run-on at once.' A label that still matches has an open window, so the
-// close is asked for only where none does, and the window of a recording that stays is computed once.
+// 'A closed window comes before all of these: it ends a recording or run-on at once', and so does one that 'isn't open yet'. A label that still
+// matches has an open window, so that is asked for only where none does, and the window of a recording that stays is computed once.
 // A copy that is not live moves to the lowest place with PRF 0 too, so `not_live` needs no `moves_or` before it.
 fn from_recording(s: u32, places: [Stamped; 16], b: Booking, p: u8, mi: bool) -> Copy
     ensures { λ r. ⌜ r ≡ nextCopy s places b (Copy.Recording p mi) ⌝ }
@@ -95,8 +95,8 @@ fn from_recording(s: u32, places: [Stamped; 16], b: Booking, p: u8, mi: bool) ->
             mi: own.mi,
         };
     }
-    let over = ended_at(s, b);
-    if over {
+    let open = open_at(s, b);
+    if !open {
         return Copy::Waiting;
     }
     let seen = sight_of(s, places, b);
@@ -110,8 +110,8 @@ fn from_recording(s: u32, places: [Stamped; 16], b: Booking, p: u8, mi: bool) ->
 fn from_running_on(s: u32, places: [Stamped; 16], b: Booking, p: u8, v: u32) -> Copy
     ensures { λ r. ⌜ r ≡ nextCopy s places b (Copy.RunningOn p v) ⌝ }
 {
-    let over = ended_at(s, b);
-    if over {
+    let open = open_at(s, b);
+    if !open {
         return Copy::Waiting;
     }
     let seen = sight_of(s, places, b);
@@ -122,7 +122,7 @@ fn from_running_on(s: u32, places: [Stamped; 16], b: Booking, p: u8, v: u32) -> 
     not_live(s, places, b, seen)
 }
 
-// A copy that is not live sees nothing once its window has closed, and is not by the clock, so nothing asks here whether it has.
+// A copy that is not live sees nothing while its window is not open, and is not by the clock, so nothing asks here whether it is.
 fn from_waiting(s: u32, places: [Stamped; 16], b: Booking) -> Copy
     ensures { λ r. ⌜ r ≡ notLive s places b (sightOf s places b) ⌝ }
 {
@@ -131,7 +131,7 @@ fn from_waiting(s: u32, places: [Stamped; 16], b: Booking) -> Copy
 }
 
 // 'Without a break': what waits has no second, and being prepared later counts anew. As in `from_waiting`, nothing asks whether the window
-// has closed.
+// is open.
 fn from_prepared(s: u32, places: [Stamped; 16], b: Booking, v: u32) -> Copy
     ensures { λ r. ⌜ r ≡ fromPrepared s places b v (sightOf s places b) ⌝ }
 {

@@ -1,27 +1,31 @@
 -- No number that a sheet prints is above 17, and the count is that of all slots.
 use Prim.Native.Nat.{ℕ, zero, suc, _+_, _-_, _≤_, _<_}
 use mathlib.Core.Path.{_≡_, refl, _∙_}
-use mathlib.Core.Bool.{Bool, true, false, cond, not, _||_, true≢false}
+use mathlib.Core.Bool.{Bool, true, false, cond, not, _&&_, _||_, true≢false}
 use mathlib.Core.List.{List, [], _∷_}
 use native.Mathlib.Omega.{arith}
 use lib.Dec.{ltb}
 use lib.ListN.{length, take, drop, getD, length-map, length-set}
 use Rattle.answer.specs.Answer.{Answer, refused, given, firstOf, andThen, number, after}
 use Rattle.answer.proofs.Counts.{count-length}
+use Rattle.answer.specs.Lists.{some}
+use Rattle.answer.proofs.Cases.{by-test}
 use Rattle.answer.proofs.Every.{first-holds}
 use Rattle.label.specs.declared.Label.{Label}
 use Rattle.label.specs.Packet.{readerRows, readingOf, labelIn}
 use Rattle.label.specs.Pil.{twentyBits}
 use Rattle.calendar.specs.Calendar.{realIn, windowAt, windowIn}
 use Rattle.calendar.specs.declared.Window.{Window}
-use Rattle.places.specs.Places.{Found, nowhere, at, lowestFrom}
+use Rattle.places.specs.Places.{noLabel, flag, Found, nowhere, at, lowestFrom}
 use Rattle.rule.specs.Rule.{nextTimer, liveTimer}
 use Rattle.matching.specs.declared.Booking.{Booking}
 use Rattle.rule.specs.declared.Copy.the-variants.{Waiting}
 use Rattle.rule.specs.declared.Timer.{Timer}
 use Rattle.desk.specs.declared.Desk.{Desk}
-use Rattle.sixteen.specs.Sixteen.{isNowhere, slotOf}
-use Rattle.desk.specs.Calls.{Told, tunerRows, labelRows, hearingAt, packetOf, roomIn, withLabel, withTimer, addRows, addOf}
+use Rattle.sixteen.specs.Sixteen.{noTimer, active, sameBooking, isNowhere, slotOf}
+use Rattle.moving.specs.Moving.{Update, repeats, moves, movedIn}
+use Rattle.moving.proofs.Update.{update-holds}
+use Rattle.desk.specs.Calls.{Told, tunerRows, placeOf, timerAt, hearingAt, updated, updatingAt, updating, obeying, packetOf, roomIn, withLabel, withTimer, addRows, addOf}
 use Rattle.desk.specs.Moments.{fresh, moment, clockedAt, nextSecond, walk, passTo, liveCount}
 use Rattle.desk.specs.Numbers.{leftBy}
 use Rattle.desk.proofs.Settle.{Counted, moment-counted}
@@ -88,15 +92,19 @@ small-refusal b d =
 
 -- ── answers ────────────────────────────────────────────────────────────────────────────────────────────────────────
 pub small-answer : (tuner t : ℕ) (bytes : List ℕ) (d : Desk) → number (packetOf tuner t bytes d) ≤ 16
-unfolding packetOf readingOf
+unfolding packetOf readingOf obeying updating
 small-answer tuner t bytes d =
     first-holds (λ x. number (andThen x (λ p. andThen (readingOf p) heard)) ≤ 16) bytes (tunerRows d tuner t) (omega arith) (λ none. small-read)
   where
     heard : Label → Answer Desk
-    heard l = firstOf (labelRows l) (hearingAt tuner t l d)
+    heard l = obeying tuner t l d
 
     small-heard : (l : Label) → number (heard l) ≤ 16
-    small-heard l = first-holds (λ x. number x ≤ 16) (hearingAt tuner t l d) (labelRows l) (omega arith) (omega arith)
+    small-heard l =
+        by-test (flag (l .luf))
+        (λ e. rw e (update-holds (λ a. number (andThen a (λ u. given (updatingAt t u d))) ≤ 16) (omega arith) (omega arith) (omega arith) (λ u. omega arith)
+        t (getD (d .places) (placeOf tuner l) noLabel) l (d .timers)))
+        (λ e. rw e (omega arith))
 
     small-read : number (andThen (readingOf bytes) heard) ≤ 16
     small-read =
@@ -121,18 +129,22 @@ module _ (P : Desk → Type 0) (d : Desk) (p : P d) where
       go (refused k) = p
       go (given w) = first-holds (λ a. P (leftBy d a)) added (addRows b d w) (p, (p, (p, (p, tt)))) (λ none. q)
 
-  packet-kept : (tuner s : ℕ) (bytes : List ℕ) → ((l : Label) → P (hearingAt tuner s l d)) → P (after d (packetOf tuner s bytes d))
-  unfolding packetOf
-  packet-kept tuner s bytes q =
+  packet-kept : (tuner s : ℕ) (bytes : List ℕ) → ((l : Label) → P (hearingAt tuner s l d)) → ((u : Update) → P (updatingAt s u d)) →
+      P (after d (packetOf tuner s bytes d))
+  unfolding packetOf obeying updating
+  packet-kept tuner s bytes q r =
       first-holds (λ x. P (after d (andThen x (λ y. andThen (readingOf y) heard)))) bytes (tunerRows d tuner s) (p, (p, (p, tt)))
       (λ none. read (readingOf bytes))
     where
       heard : Label → Answer Desk
-      heard l = firstOf (labelRows l) (hearingAt tuner s l d)
+      heard l = obeying tuner s l d
 
       read : (a : Answer Label) → P (after d (andThen a heard))
       read (refused k) = p
-      read (given l) = first-holds (λ a. P (after d a)) (hearingAt tuner s l d) (labelRows l) (p, tt) (λ none. q l)
+      read (given l) =
+          by-test (flag (l .luf))
+          (λ e. rw e (update-holds (λ a. P (after d (andThen a (λ u. given (updatingAt s u d))))) p p p r s (getD (d .places) (placeOf tuner l) noLabel) l (d .timers)))
+          (λ e. rw e (q l))
 
 -- ── the desk keeps its sixteen timers ──────────────────────────────────────────────────────────────────────────────
 moment-kept : (d : Desk) → length (moment d .timers) ≡ length (d .timers)
@@ -144,8 +156,16 @@ unfolding walk nextSecond
 walk-kept zero d = refl
 walk-kept (suc n) d = walk-kept n (nextSecond d) ∙ moment-kept (clockedAt (suc (d .clock)) d)
 
+updated-kept : (u : Update) (d : Desk) → length (updated u d .timers) ≡ length (d .timers)
+unfolding movedIn
+updated-kept repeats d = refl
+updated-kept (moves slot b) d =
+    by-test (some (λ t. active (d .clock) t && sameBooking b (t .booking)) (withTimer slot noTimer d .timers))
+    (λ e. rw e (length-set (d .timers) slot noTimer))
+    (λ e. rw e (length-set (d .timers) slot (record { booking = b; copy = timerAt d slot .copy })))
+
 pub timers-kept : (item : List ℕ) (d : Desk) → (length (timerLeft item d .timers) ≡ length (d .timers)) × (length (packetLeft item d .timers) ≡ length (d .timers))
-unfolding timerLeft packetLeft hearingAt passTo
+unfolding timerLeft packetLeft hearingAt updatingAt passTo
 timers-kept item d =
     let b = bookingIn item in
     let slot = slotOf (roomIn d) in
@@ -154,14 +174,15 @@ timers-kept item d =
     let s = numberOf (take 4 item) in
     let P : Desk → Type 0 = λ e. length (e .timers) ≡ length (d .timers) in (
       add-kept P d refl b (moment-kept (withTimer slot t d) ∙ length-set (d .timers) slot t),
-      packet-kept P d refl tuner s (drop 5 item) (λ l. moment-kept (withLabel tuner l (passTo s d)) ∙ walk-kept (s - d .clock) d),
+      packet-kept P d refl tuner s (drop 5 item) (λ l. moment-kept (withLabel tuner l (passTo s d)) ∙ walk-kept (s - d .clock) d)
+          (λ u. moment-kept (updated u (passTo s d)) ∙ updated-kept u (passTo s d) ∙ walk-kept (s - d .clock) d),
     )
 
 -- ── and its count of those that are live ───────────────────────────────────────────────────────────────────────────
 item-counted : (i : Item) (d : Desk) → Counted d → Counted (itemLeft i d)
-unfolding timerLeft packetLeft hearingAt
+unfolding timerLeft packetLeft hearingAt updatingAt
 item-counted (timer i) d p = add-kept Counted d p (bookingIn i) (moment-counted _)
-item-counted (packet i) d p = packet-kept Counted d p (getD i 4 0) (numberOf (take 4 i)) (drop 5 i) (λ l. moment-counted _)
+item-counted (packet i) d p = packet-kept Counted d p (getD i 4 0) (numberOf (take 4 i)) (drop 5 i) (λ l. moment-counted _) (λ u. moment-counted _)
 
 items-counted : (is : List Item) (d : Desk) → Counted d → Counted (deskLeft is d)
 unfolding deskLeft

@@ -2,6 +2,7 @@
 //! this shows every slot after every call.
 use crate::desk::Desk;
 use crate::failing::Failing;
+use crate::moving::Moving;
 use crate::random::Random;
 use crate::scenes::{out_of_range, Scene};
 use crate::stretch::Stretch;
@@ -126,7 +127,7 @@ fn in_scene(seed: u64, scene: &mut Scene) -> Vec<Call> {
         calls.push(Call::Wait(scene.now()));
     }
     let length = scene.length(r);
-    let (stretch, failing) = (r.below(2 * length + 2), r.below(2 * length + 2));
+    let (stretch, failing, moving) = (r.below(2 * length + 2), r.below(2 * length + 2), r.below(length + 2));
     for n in 0..length {
         if n == stretch {
             if let Some((made, until)) = scene.stretch(r).map(Stretch::made) {
@@ -136,6 +137,12 @@ fn in_scene(seed: u64, scene: &mut Scene) -> Vec<Call> {
         }
         if n == failing {
             if let Some((made, until)) = scene.failing(r).map(Failing::made) {
+                calls.extend(made);
+                scene.pass(until);
+            }
+        }
+        if n == moving {
+            if let Some((made, until)) = scene.moving(r).map(Moving::made) {
                 calls.extend(made);
                 scene.pass(until);
             }

@@ -1,9 +1,10 @@
 //! The desk as the paper words it: every second is walked, or those that `Pace` says, and at every moment every timer's copy is worked
 //! out anew from the labels that stand. Nothing is kept that could be worked out, but for the window and the announced second of a timer,
-//! whether anything stands, and, for faults and for counting, what a copy has been.
+//! whether anything stands, and, for faults and for counting, what a copy has been and what came of each update.
 mod clock;
 mod minute;
 mod panel;
+mod update;
 
 use crate::calendar::END;
 use crate::calls::{Machine, State, Timer};
@@ -11,6 +12,8 @@ use crate::faults::{self, Fault};
 use crate::paper::{self, Label};
 use minute::Past;
 use panel::Turn;
+pub use update::{Came, Moved};
+use update::Asked;
 
 const STANDS: u32 = 5;
 const RUNS_ON: u32 = 30;
@@ -85,6 +88,8 @@ pub struct Desk {
     starts: u64,
     /// How often a moment found a copy by the clock that was something else before.
     clocked: u64,
+    /// What came of each packet with LUF 1.
+    updates: Vec<Came>,
     fault: Option<Fault>,
     obeyed: u32,
     /// The present moment is a second that passes, no call.
@@ -111,6 +116,7 @@ impl Desk {
             skipped: 0,
             starts: 0,
             clocked: 0,
+            updates: Vec::new(),
             fault,
             obeyed: 0,
             walking: false,
@@ -144,12 +150,16 @@ impl Desk {
     }
 
     fn stands(&self, heard: &Heard) -> bool {
+        self.stands_at(heard, self.clock)
+    }
+
+    fn stands_at(&self, heard: &Heard, second: u32) -> bool {
         let stands = match self.fault {
             Some(Fault::StandsFour) => STANDS - 1,
             Some(Fault::StandsSix) => STANDS + 1,
             _ => STANDS,
         };
-        self.clock - heard.stamp <= stands
+        second - heard.stamp <= stands
     }
 
     fn standing(&self, place: usize) -> Option<Label> {
@@ -243,6 +253,7 @@ impl Desk {
             };
         }
         match held.copy {
+            _ if self.unopened(held) => Copy::Waiting,
             Copy::Recording { place, mi } => {
                 let stays = self.not_ordinary(held, place).or_else(|| self.stays(held, place, mi));
                 stays.unwrap_or_else(|| self.loses(held, place, mi))
@@ -422,8 +433,8 @@ impl Desk {
         }
     }
 
-    /// The label of a packet that is accepted at that time.
-    fn accepts(&self, time: u32, tuner: u8, bytes: &[u8]) -> Result<Label, u8> {
+    /// The label of a packet that is accepted at that time, but for what LUF may have against it.
+    fn reads(&self, time: u32, tuner: u8, bytes: &[u8]) -> Result<Label, u8> {
         let tuner_refused = tuner > if self.has(Fault::TunerFourTaken) { 4 } else { 3 };
         if tuner_refused && !self.has(Fault::TunerAfterTime) {
             return Err(8);
@@ -432,17 +443,25 @@ impl Desk {
         if self.has(Fault::DamageBeforeTime) {
             read?;
         }
+        if self.has(Fault::UpdateBeforeTime) {
+            let label = read?;
+            self.asks(time.max(self.clock), self.place_of(tuner, &label), &label)?;
+        }
         if let Some(refusal) = self.time_refused(time) {
             return Err(refusal);
         }
         if tuner_refused {
             return Err(8);
         }
-        let label = read?;
-        if label.luf == 1 && !self.has(Fault::LufIgnored) {
-            return Err(7);
+        read
+    }
+
+    fn place_of(&self, tuner: u8, label: &Label) -> usize {
+        match self.fault {
+            Some(Fault::TunersAsOne) => label.lci as usize,
+            Some(Fault::LcisAsOne) => 4 * (tuner as usize % 4),
+            _ => 4 * (tuner as usize % 4) + label.lci as usize,
         }
-        Ok(label)
     }
 
     fn hear(&mut self, place: usize, label: Label) {
@@ -526,44 +545,70 @@ impl Desk {
     }
 
     fn packet_answer(&mut self, time: u32, tuner: u8, bytes: &[u8]) -> u8 {
-        let label = match self.accepts(time, tuner, bytes) {
-            Ok(label) => label,
+        let read = self.reads(time, tuner, bytes).map(|label| (self.place_of(tuner, &label), label));
+        let asked = read.and_then(|(place, label)| Ok((place, label, self.asks(time.max(self.clock), place, &label)?)));
+        let number = match asked {
+            Ok((place, label, asked)) => {
+                self.obeys(time.max(self.clock), place, label, asked);
+                0
+            }
             Err(refusal) => {
-                let moves = self.has(Fault::RefusedMovesClock) || self.has(Fault::LufMovesClock) && refusal == 7;
-                if (moves || self.has(Fault::RefusedWalks)) && self.time_refused(time).is_none() {
-                    let clock = self.clock;
-                    self.pass(time);
-                    if !moves {
-                        self.clock = clock;
-                    }
-                }
-                return refusal;
+                self.refuses(time, refusal);
+                refusal
             }
         };
-        let time = time.max(self.clock);
-        let again = time == self.clock && self.obeyed > 0;
-        if self.has(Fault::FirstPacketOnly) && self.obeyed > 0 || self.has(Fault::FirstTunerOnly) && tuner > 0 {
+        if let Ok((_, label)) = read {
+            self.count_refused(&label, number);
+        }
+        number
+    }
+
+    /// What a refused packet changes: nothing.
+    fn refuses(&mut self, time: u32, refusal: u8) {
+        let moves = self.has(Fault::RefusedMovesClock) || self.has(Fault::RefusedUpdateMovesClock) && [7, 11, 12].contains(&refusal);
+        if (moves || self.has(Fault::RefusedWalks)) && self.time_refused(time).is_none() {
+            let clock = self.clock;
             self.pass(time);
-            return 0;
+            if !moves {
+                self.clock = clock;
+            }
+        }
+    }
+
+    fn obeys(&mut self, time: u32, place: usize, label: Label, asked: Asked) {
+        let again = time == self.clock && self.obeyed > 0;
+        if self.has(Fault::FirstPacketOnly) && self.obeyed > 0 || self.has(Fault::FirstTunerOnly) && place > 3 {
+            self.pass(time);
+            return;
         }
         self.obeyed += 1;
-        let place = match self.fault {
-            Some(Fault::TunersAsOne) => label.lci as usize,
-            Some(Fault::LcisAsOne) => 4 * (tuner as usize % 4),
-            _ => 4 * (tuner as usize % 4) + label.lci as usize,
-        };
+        if self.early(&asked) {
+            self.takes(place, label, asked);
+            self.pass(time);
+            return;
+        }
         if self.has(Fault::SecondAfterPacket) && time > self.clock {
             self.pass(time - 1);
             self.clock = time;
-        } else {
+        } else if !(self.has(Fault::RepeatKeepsClock) && asked == Asked::Repeat) {
             self.pass(time);
         }
-        self.break_by_packet(place, &label);
-        self.hear(place, label);
-        if !(self.has(Fault::OneMomentASecond) && again) {
+        self.takes(place, label, asked);
+        if !(self.has(Fault::OneMomentASecond) && again || self.has(Fault::UpdateIsNoMoment) && asked != Asked::Label) {
             self.moment();
         }
-        0
+    }
+
+    /// What a packet does at its second, before the copies go on.
+    fn takes(&mut self, place: usize, label: Label, asked: Asked) {
+        match asked {
+            Asked::Label => {
+                self.break_by_packet(place, &label);
+                self.hear(place, label);
+            }
+            Asked::Repeat => self.repeated(place, label),
+            Asked::Move(booking) => self.rebook(place, label, booking),
+        }
     }
 
     fn wait_answer(&mut self, time: u32) -> Result<u32, u8> {

@@ -1,26 +1,14 @@
 //! Stretches in which the labels of a timer's home tuner fail, or do not: what is on air there and elsewhere, and calls at the seconds at
 //! which by the clock begins, ends, or gives way to a match. A stretch does not follow what the desk makes of it.
 use crate::calls::{Call, Timer};
-use crate::paper::Label;
+use crate::on_air::{Air, OnAir, Place};
 use crate::random::Random;
-use crate::scenes::{code, one, sent};
-
-type Place = (u8, u8);
+use crate::scenes::{code, one};
 
 const TIMER_CONTROL: u32 = 31;
 
-/// What is sent at a place again and again.
-#[derive(Clone, Copy)]
-struct OnAir {
-    place: Place,
-    cni: u16,
-    pil: u32,
-    mi: u8,
-    prf: u8,
-}
-
 pub struct Failing<'a> {
-    r: &'a mut Random,
+    air: Air<'a>,
     timer: Timer,
     announced: u32,
     /// The length has passed, or the window has closed.
@@ -29,11 +17,6 @@ pub struct Failing<'a> {
     home: Place,
     away: Place,
     spare: Place,
-    now: u32,
-    on_air: Vec<OnAir>,
-    /// A sheet has packets alone.
-    packets_only: bool,
-    calls: Vec<Call>,
 }
 
 impl<'a> Failing<'a> {
@@ -44,104 +27,65 @@ impl<'a> Failing<'a> {
         let away = if elsewhere.is_empty() { (timer.tuner ^ 1, lci(r)) } else { one(r, &elsewhere) };
         let third: Vec<u8> = (0..4).filter(|tuner| ![home.0, away.0].contains(tuner)).collect();
         let spare = (one(r, &third), lci(r));
-        let (on_air, calls) = (Vec::new(), Vec::new());
-        Failing { r, timer, announced, ends, home, away, spare, now, on_air, packets_only: false, calls }
+        Failing { air: Air::new(r, now), timer, announced, ends, home, away, spare }
     }
 
-    pub fn packets_only(self) -> Failing<'a> {
-        Failing { packets_only: true, ..self }
+    pub fn packets_only(mut self) -> Failing<'a> {
+        self.air.packets_only = true;
+        self
     }
 
     /// The calls, and the second that they reach.
     pub fn made(mut self) -> (Vec<Call>, u32) {
-        match self.r.below(8) {
+        match self.air.r.below(8) {
             0 => self.minute_before_announced(),
             1 => self.fails_as_the_minute_ends(),
             2 | 3 => self.prepared_anew(),
             4 => self.within(),
             _ => self.edge(),
         }
-        (self.calls, self.now)
-    }
-
-    fn send(&mut self, air: OnAir) {
-        let OnAir { place: (tuner, lci), cni, pil, mi, prf } = air;
-        let label = Label { designation: 2, lci, mi, prf, cni, pil, ..Label::default() };
-        let bytes = sent(self.r, &label);
-        self.calls.push(Call::Packet(self.now, tuner, bytes));
-    }
-
-    /// From now on something else is on air at a place.
-    fn air(&mut self, air: OnAir) {
-        self.off(air.place);
-        self.on_air.push(air);
-        self.send(air);
-    }
-
-    /// From now on nothing is sent there.
-    fn off(&mut self, place: Place) {
-        self.on_air.retain(|other| other.place != place);
+        (self.air.calls, self.air.now)
     }
 
     fn own(&mut self, place: Place, mi: u8, prf: u8) {
         let Timer { cni, pil, .. } = self.timer;
-        self.air(OnAir { place, cni, pil, mi, prf });
+        self.air.put(OnAir { place, cni, pil, mi, prf });
     }
 
     /// A label that matches nothing, and is not timer-control.
     fn other(&mut self, place: Place) {
-        let pil = one(self.r, &[code(30), code(30), code(29), 0xF_FFFF, self.timer.pil ^ 1, self.timer.pil ^ 1]);
-        let (mi, prf) = (self.r.below(2) as u8, self.r.below(2) as u8);
-        self.air(OnAir { place, cni: self.timer.cni, pil, mi, prf });
+        let pil = one(self.air.r, &[code(30), code(30), code(29), 0xF_FFFF, self.timer.pil ^ 1, self.timer.pil ^ 1]);
+        let (mi, prf) = (self.air.bit(), self.air.bit());
+        self.air.put(OnAir { place, cni: self.timer.cni, pil, mi, prf });
     }
 
     fn control(&mut self, place: Place) {
-        let cni = if self.r.once_in(2) { self.timer.cni } else { self.r.next() as u16 };
-        let (mi, prf) = (self.r.below(2) as u8, self.r.below(2) as u8);
-        self.air(OnAir { place, cni, pil: code(TIMER_CONTROL), mi, prf });
+        let cni = if self.air.r.once_in(2) { self.timer.cni } else { self.air.r.next() as u16 };
+        let (mi, prf) = (self.air.bit(), self.air.bit());
+        self.air.put(OnAir { place, cni, pil: code(TIMER_CONTROL), mi, prf });
     }
 
     /// Another place of the home tuner.
     fn beside_home(&mut self) -> Place {
-        (self.home.0, self.home.1 ^ 1 + self.r.below(3) as u8)
+        (self.home.0, self.home.1 ^ 1 + self.air.r.below(3) as u8)
     }
 
-    /// Up to a second at which all that is on air stands.
-    fn to(&mut self, second: u32) {
-        while self.now < second {
-            let step = if self.on_air.is_empty() { second - self.now } else { one(self.r, &[3, 4, 5, 5, 5]) };
-            self.now = second.min(self.now + step);
-            for air in self.on_air.clone() {
-                self.send(air);
-            }
-        }
-    }
-
-    fn after(&mut self, seconds: u32) {
-        self.to(self.now + seconds);
-    }
-
-    /// Nothing but the second itself: a wait, or a packet that says nothing of the timer.
     fn look(&mut self) {
-        if self.packets_only || self.r.once_in(4) {
-            let (place, cni) = (self.spare, self.timer.cni);
-            let pil = one(self.r, &[code(30), self.timer.pil ^ 1]);
-            self.send(OnAir { place, cni, pil, mi: 0, prf: 0 });
-        } else {
-            self.calls.push(Call::Wait(self.now));
-        }
+        let (place, cni) = (self.spare, self.timer.cni);
+        let pil = one(self.air.r, &[code(30), self.timer.pil ^ 1]);
+        self.air.look(OnAir { place, cni, pil, mi: 0, prf: 0 });
     }
 
     fn look_at(&mut self, second: u32) {
-        if second > self.now && !self.r.once_in(5) {
-            self.to(second);
+        if second > self.air.now && !self.air.r.once_in(5) {
+            self.air.to(second);
             self.look();
         }
     }
 
     /// What is on air to begin with.
     fn scenery(&mut self) {
-        match self.r.below(8) {
+        match self.air.r.below(8) {
             0 => self.other(self.home),
             1 => self.control(self.home),
             2 => {
@@ -152,13 +96,13 @@ impl<'a> Failing<'a> {
             3 => self.control(self.away),
             _ => {}
         }
-        match self.r.below(8) {
+        match self.air.r.below(8) {
             0 | 1 => {
-                let mi = self.r.below(2) as u8;
+                let mi = self.air.bit();
                 self.own(self.away, mi, 1);
             }
             2 => {
-                let mi = self.r.below(2) as u8;
+                let mi = self.air.bit();
                 self.own(self.away, mi, 0);
             }
             3 => {
@@ -172,12 +116,12 @@ impl<'a> Failing<'a> {
     /// Around the announced second, or the end.
     fn edge(&mut self) {
         const SOON: u32 = 10_000;
-        let announced = self.announced > self.now && self.r.once_in(2);
-        let edge = if announced || self.ends > self.now + SOON { self.announced } else { self.ends };
-        if edge < self.now + 3 {
+        let announced = self.announced > self.air.now && self.air.r.once_in(2);
+        let edge = if announced || self.ends > self.air.now + SOON { self.announced } else { self.ends };
+        if edge < self.air.now + 3 {
             return self.within();
         }
-        self.now = self.now.max(edge - 2 - self.r.below(6).min(edge as u64 - 2) as u32);
+        self.air.now = self.air.now.max(edge - 2 - self.air.r.below(6).min(edge as u64 - 2) as u32);
         self.scenery();
         for second in edge - 1..edge + 2 {
             self.look_at(second);
@@ -187,26 +131,26 @@ impl<'a> Failing<'a> {
 
     /// From some second on at which the clock may record.
     fn within(&mut self) {
-        self.now = self.now.max(self.announced);
+        self.air.now = self.air.now.max(self.announced);
         self.scenery();
         self.look();
         self.turns();
     }
 
     fn turns(&mut self) {
-        for _ in 0..1 + self.r.below(4) {
+        for _ in 0..1 + self.air.r.below(4) {
             self.turn();
-            if self.r.once_in(2) {
+            if self.air.r.once_in(2) {
                 self.look();
             }
-            let pause = one(self.r, &[0, 0, 1, 1, 2, 4]);
-            self.after(pause);
+            let pause = one(self.air.r, &[0, 0, 1, 1, 2, 4]);
+            self.air.after(pause);
         }
     }
 
     /// Something else is on air, or nothing.
     fn turn(&mut self) {
-        match self.r.below(14) {
+        match self.air.r.below(14) {
             0 | 1 => self.silence(),
             2 | 3 => self.other(self.home),
             4 => self.control(self.home),
@@ -217,22 +161,22 @@ impl<'a> Failing<'a> {
             6 => self.control(self.spare),
             7 | 8 | 9 => self.match_and_loss(),
             10 => {
-                let mi = self.r.below(2) as u8;
+                let mi = self.air.bit();
                 self.own(self.away, mi, 1);
             }
             11 => {
                 // what stands at home, kept by continuation
                 let (place, cni) = (self.home, self.timer.cni);
-                self.off(place);
-                self.send(OnAir { place, cni, pil: code(28), mi: 0, prf: 0 });
-                self.after(4);
+                self.air.off(place);
+                self.air.send(OnAir { place, cni, pil: code(28), mi: 0, prf: 0 });
+                self.air.after(4);
                 self.look();
             }
-            12 if !self.packets_only => self.add_or_cancel(),
+            12 if !self.air.packets_only => self.add_or_cancel(),
             _ => {
-                let second = one(self.r, &[self.ends - 1, self.ends, self.ends + 1]);
-                if second <= self.now.saturating_add(3_600) {
-                    self.to(second);
+                let second = one(self.air.r, &[self.ends - 1, self.ends, self.ends + 1]);
+                if second <= self.air.now.saturating_add(3_600) {
+                    self.air.to(second);
                     self.look();
                 }
             }
@@ -242,27 +186,27 @@ impl<'a> Failing<'a> {
     /// Nothing is sent at the home tuner any more: what stands there lapses at the sixth second.
     fn silence(&mut self) {
         let home = self.home.0;
-        self.on_air.retain(|other| other.place.0 != home);
-        let last = self.now;
+        self.air.silence(home);
+        let last = self.air.now;
         self.look_at(last + 5);
         self.look_at(last + 6);
     }
 
     /// PRF 0 elsewhere, and then another label in its place, or none.
     fn match_and_loss(&mut self) {
-        let mi = self.r.below(2) as u8;
+        let mi = self.air.bit();
         self.own(self.away, mi, 0);
-        let kept = one(self.r, &[0, 1, 6]);
-        self.after(kept);
-        let mut lost = self.now;
-        if self.r.once_in(3) {
-            self.off(self.away);
+        let kept = one(self.air.r, &[0, 1, 6]);
+        self.air.after(kept);
+        let mut lost = self.air.now;
+        if self.air.r.once_in(3) {
+            self.air.off(self.away);
             lost += 6;
             self.look_at(lost);
         } else {
             self.other(self.away);
         }
-        if self.r.once_in(3) {
+        if self.air.r.once_in(3) {
             for second in lost + 29..lost + 32 {
                 self.look_at(second);
             }
@@ -271,22 +215,22 @@ impl<'a> Failing<'a> {
 
     /// The timer once more, where it has the slot; or its twin.
     fn add_or_cancel(&mut self) {
-        let (timer, slot) = (self.timer, one(self.r, &[0, 0, 1, 2]));
-        match self.r.below(3) {
-            0 => self.calls.push(Timer { tuner: self.away.0, ..timer }.add()),
-            1 => self.calls.extend([Call::Cancel(slot), Timer { tuner: self.away.0, ..timer }.add()]),
-            _ => self.calls.extend([Call::Cancel(slot), timer.add()]),
+        let (timer, slot) = (self.timer, one(self.air.r, &[0, 0, 1, 2]));
+        match self.air.r.below(3) {
+            0 => self.air.calls.push(Timer { tuner: self.away.0, ..timer }.add()),
+            1 => self.air.calls.extend([Call::Cancel(slot), Timer { tuner: self.away.0, ..timer }.add()]),
+            _ => self.air.calls.extend([Call::Cancel(slot), timer.add()]),
         }
     }
 
     /// Prepared for a minute when the announced second comes.
     fn minute_before_announced(&mut self) {
-        let since = self.announced.saturating_sub(one(self.r, &[60, 61, 61, 61, 62]));
-        if since <= self.now {
+        let since = self.announced.saturating_sub(one(self.air.r, &[60, 61, 61, 61, 62]));
+        if since <= self.air.now {
             return self.within();
         }
-        self.now = since;
-        let mi = self.r.below(2) as u8;
+        self.air.now = since;
+        let mi = self.air.bit();
         self.own(self.away, mi, 1);
         for second in self.announced - 1..self.announced + 2 {
             self.look_at(second);
@@ -297,13 +241,13 @@ impl<'a> Failing<'a> {
 
     /// Prepared while the home tuner is heard, which falls silent about when the minute is over.
     fn fails_as_the_minute_ends(&mut self) {
-        self.now = self.now.max(self.announced);
+        self.air.now = self.air.now.max(self.announced);
         self.other(self.home);
-        let (since, mi) = (self.now, self.r.below(2) as u8);
+        let (since, mi) = (self.air.now, self.air.bit());
         self.own(self.away, mi, 1);
-        let last = since + one(self.r, &[54, 55, 55, 55, 56]);
-        self.to(last);
-        self.off(self.home);
+        let last = since + one(self.air.r, &[54, 55, 55, 55, 56]);
+        self.air.to(last);
+        self.air.off(self.home);
         for second in since + 60..since + 63 {
             self.look_at(second);
         }
@@ -313,17 +257,17 @@ impl<'a> Failing<'a> {
 
     /// Prepared, by the clock for a while, and prepared again, from the new second on.
     fn prepared_anew(&mut self) {
-        self.now = self.now.max(self.announced);
+        self.air.now = self.air.now.max(self.announced);
         self.other(self.home);
-        let (since, mi) = (self.now, self.r.below(2) as u8);
+        let (since, mi) = (self.air.now, self.air.bit());
         self.own(self.away, mi, 1);
-        let until = since + self.r.below(40) as u32;
-        self.to(until);
-        if self.r.once_in(2) {
+        let until = since + self.air.r.below(40) as u32;
+        self.air.to(until);
+        if self.air.r.once_in(2) {
             self.control(self.home);
         } else {
             self.silence();
-            self.after(6);
+            self.air.after(6);
         }
         self.look();
         self.other(self.home);

@@ -7,6 +7,8 @@ pub mod desk;
 pub mod examples;
 pub mod failing;
 pub mod faults;
+pub mod moving;
+pub mod on_air;
 pub mod pages;
 pub mod paper;
 pub mod preselection;

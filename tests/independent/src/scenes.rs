@@ -4,6 +4,7 @@
 use crate::calendar::{self, END};
 use crate::calls::Timer;
 use crate::failing::Failing;
+use crate::moving::{self, Moving};
 use crate::paper::{self, good, Label};
 use crate::random::Random;
 use crate::stretch::Stretch;
@@ -61,6 +62,8 @@ fn minutes(r: &mut Random, closes: u32) -> u16 {
 
 pub struct Scene {
     programmes: Vec<Programme>,
+    /// What the first one may go on under.
+    moves: Timer,
     /// Tuner and LCI, few enough to be heard again and again.
     places: Vec<(u8, u8)>,
     now: u32,
@@ -174,6 +177,8 @@ impl Scene {
         let mut scene = Scene::new(r);
         scene.now = scene.programmes[0].window.0.saturating_sub(30);
         scene.steady = true;
+        // there and back, and no other timer holds it
+        scene.moves = Timer { cni: scene.first().cni ^ 0xF00, ..scene.first() };
         scene
     }
 
@@ -216,7 +221,8 @@ impl Scene {
         }
         let now = programmes[0].second(r);
         let marks = programmes.iter().flat_map(|p| [p.window.0, p.window.1, p.length.0, p.length.1]).collect();
-        Scene { programmes, places, now, marks, last: None, burst: Vec::new(), steady: false, repeats: r.below(10) }
+        let moves = moving::target(r, programmes[0].timer, now);
+        Scene { programmes, moves, places, now, marks, last: None, burst: Vec::new(), steady: false, repeats: r.below(10) }
     }
 
     pub fn now(&self) -> u32 {
@@ -241,9 +247,11 @@ impl Scene {
         if r.once_in(2) {
             return self.first();
         }
+        if r.once_in(if self.steady { 3 } else { 8 }) {
+            return self.moves;
+        }
         self.programmes[r.below(self.programmes.len() as u64) as usize].timer
     }
-
 
     /// Timers to be added, among them some that are refused.
     pub fn timers(&self, r: &mut Random) -> Vec<Timer> {
@@ -254,6 +262,12 @@ impl Scene {
         }
         if r.once_in(4) {
             timers.truncate(1);
+        }
+        if !self.steady && r.once_in(4) {
+            // another timer holds what the first one may go on under, or that of another year
+            let year = self.moves.year.wrapping_add(one(r, &[0, 0, 1, 255]));
+            let at = r.below(timers.len() as u64 + 1) as usize;
+            timers.insert(at, Timer { year, tuner: r.below(4) as u8, ..self.moves });
         }
         if r.once_in(10) {
             // more than the desk holds, the programmes first or last
@@ -434,15 +448,51 @@ impl Scene {
         soon.then(|| Failing::new(r, of.timer, &self.places, self.now, (of.length.0, of.ends())))
     }
 
+    /// A stretch in which the first programme goes on under another label, if it is not over.
+    pub fn moving<'a>(&'a self, r: &'a mut Random) -> Option<Moving<'a>> {
+        let of = &self.programmes[0];
+        let seconds = (of.window.0, of.length.0, of.window.1);
+        (self.now < of.window.1).then(|| Moving::new(r, (of.timer, self.moves), seconds, &self.places, self.now))
+    }
+
+    /// LUF at 1, often where the label sent last may still stand: that label again, or what it goes on under.
+    fn update(&self, r: &mut Random, (tuner, label): (u8, Label)) -> (u8, Label) {
+        let (at, last) = match self.last {
+            Some(last) if !r.once_in(4) => last,
+            _ => return (tuner, Label { luf: 1, ..label }),
+        };
+        let Timer { cni, pil, .. } = match r.below(3) {
+            0 => self.moves,
+            1 => self.programme(r),
+            _ => Timer { cni: last.cni, pil: last.pil, ..self.moves },
+        };
+        (at, Label { luf: 1, lci: last.lci, cni, pil, ..label })
+    }
+
+    /// The same where a window stays open: the first programme goes there and back, and is on air under the label that it has.
+    fn to_and_fro(&mut self, (tuner, label): (u8, Label)) -> (u8, Label) {
+        let (first, moves) = (self.first(), self.moves);
+        let of = |timer: Timer, label: &Label| (timer.cni, timer.pil) == (label.cni, label.pil);
+        let (at, last, to) = match self.last {
+            Some((at, last)) if of(first, &last) => (at, last, moves),
+            Some((at, last)) if of(moves, &last) => (at, last, first),
+            _ => return (tuner, label),
+        };
+        (self.programmes[0].timer, self.moves) = if to == moves { (moves, first) } else { (first, moves) };
+        (at, Label { luf: 1, lci: last.lci, cni: to.cni, pil: to.pil, ..label })
+    }
+
     /// The next packet, which the desk accepts three times in four or more.
     pub fn packet(&mut self, r: &mut Random) -> Packet {
         let time = self.time(r);
         let (mut tuner, mut label) = self.label(r);
-        if r.once_in(24) {
-            label.luf = 1;
+        if r.once_in(16) {
+            let sent = (tuner, label);
+            (tuner, label) = if self.steady { self.to_and_fro(sent) } else { self.update(r, sent) };
         }
         let mut bytes = sent(r, &label);
-        let mut refused = label.luf == 1;
+        // one of LUF 1 may be accepted, or may not
+        let mut refused = label.luf == 1 && r.once_in(3);
         let mut when = time;
         match r.below(64) {
             0 | 1 => {

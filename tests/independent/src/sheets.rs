@@ -58,12 +58,18 @@ fn failing(r: &mut Random, scene: &mut Scene) -> Vec<Packet> {
     packets(scene, made)
 }
 
+/// Those of one in which a programme goes on under another label.
+fn moving(r: &mut Random, scene: &mut Scene) -> Vec<Packet> {
+    let made = scene.moving(r).map(|moving| moving.packets_only().made());
+    packets(scene, made)
+}
+
 pub fn sheet(seed: u64) -> Vec<u8> {
     let mut random = Random::new(seed ^ 0x5EE7);
     let r = &mut random;
     let mut scene = Scene::of(seed, r);
     let length = scene.length(r);
-    let (before, fails) = (r.below(2 * length + 2), r.below(2 * length + 2));
+    let (before, fails, moves) = (r.below(2 * length + 2), r.below(2 * length + 2), r.below(length + 2));
     let (timers, mut packets) = sections(r, &mut scene, 0);
     for n in 0..length {
         if n == before {
@@ -71,6 +77,9 @@ pub fn sheet(seed: u64) -> Vec<u8> {
         }
         if n == fails {
             packets.extend(failing(r, &mut scene));
+        }
+        if n == moves {
+            packets.extend(moving(r, &mut scene));
         }
         packets.push(scene.packet(r));
     }

@@ -34,6 +34,11 @@ const RIT: u32 = 15 << 11 | 30 << 6 | 63;
 /// A programme that no timer waits for.
 const OTHER: u32 = PIL + 5;
 
+/// Another network, with a programme of the same day at 21:15, and one at 22:00.
+const CNI_B: u16 = 0x1D66;
+const PIL_B: u32 = 15 << 15 | 7 << 11 | 21 << 6 | 15;
+const NEXT_B: u32 = 15 << 15 | 7 << 11 | 22 << 6;
+
 /// The length that most timers have, in minutes.
 const LENGTH: u16 = 90;
 
@@ -166,6 +171,39 @@ pub fn lessons() -> Vec<Lesson> {
             timer(0, 2),
             when_the_labels_fail(),
         ),
+        Lesson {
+            timers: vec![timer(0, LENGTH), Timer { cni: CNI_B, pil: NEXT_B, ..timer(1, LENGTH) }],
+            ..lesson(
+                "a_programme_that_moves",
+                "A match overruns, and LUF at 1 tells under which label it goes on. The label repeated is accepted and moves the clock, so \
+                 that a second before it is refused. To a window that has ended is 12, to RI/T 11, and 7 where no label stands. Then the \
+                 timer takes the other network's label: the recording runs on, the old label does not stop it, and the second tuner takes \
+                 it over. Told again, to what the second timer holds, the moved one is cancelled, and the other records when its label comes.",
+                timer(0, LENGTH),
+                a_programme_that_moves(),
+            )
+        },
+    ]
+}
+
+/// From the second on at which the first timer's length has passed, so that the clock records nothing.
+fn a_programme_that_moves() -> Vec<Packet> {
+    let end = T + 60 * LENGTH as u32;
+    let of_b = |pil| written(Label { designation: 2, mi: 1, cni: CNI_B, pil, ..Label::default() });
+    let update = |cni, pil| written(Label { designation: 2, luf: 1, cni, pil, ..Label::default() });
+    vec![
+        (end, 0, sent(PIL, 0)),
+        (end + 3, 0, update(CNI, PIL)),
+        (end + 2, 0, sent(PIL, 0)),
+        (end + 5, 0, update(CNI_B, PIL_B - (1 << 15))),
+        (end + 5, 0, update(CNI_B, RIT)),
+        (end + 5, 1, update(CNI_B, PIL_B)),
+        (end + 5, 0, update(CNI_B, PIL_B)),
+        (end + 6, 0, sent(PIL, 0)),
+        (end + 20, 1, of_b(PIL_B)),
+        (end + 21, 0, sent(RIT, 0)),
+        (end + 22, 1, update(CNI_B, NEXT_B)),
+        (end + 25, 1, of_b(NEXT_B)),
     ]
 }
 

@@ -73,7 +73,9 @@ fn send(desk: &mut Desk, table: &Table, row: &Row, time: u32) {
             let label = paper::Label { designation: 2, lci: lci as u8, luf, mi, prf, cni: CNI, pil, ..Default::default() };
             let mut bytes = [0; 42];
             assert_eq!(paper::write(&label, &mut bytes), 0);
-            assert_eq!(desk.packet(time, TUNER, &bytes), if luf == 1 { 7 } else { 0 });
+            // an update is taken once: then the label that still stands there matches no timer
+            let answer = desk.packet(time, TUNER, &bytes);
+            assert!(answer == 0 || luf == 1 && answer == 7, "{answer} at {time}");
         }
     }
 }

@@ -9,8 +9,8 @@ const SHEETS: &str = "\
 Each `NAME.sheet` is played by `./play sheets/NAME.sheet`, and prints `NAME.out`; `./aerial sheets/NAME.sheet` tells how
 well each tuner heard it, and prints `NAME.aerial`. What they hold is written out in `tests/independent/src/teaching.rs`.
 
-Each has one timer, of 15 July 2002, 19:30. But in `when_the_labels_fail`, wherever a count of 0 is printed from that second on, its home
-tuner hears a label or its length has passed, so that the clock adds nothing.
+Each has one timer, of 15 July 2002, 19:30, and `a_programme_that_moves` a second one. But in `when_the_labels_fail`, wherever a count of 0
+is printed from that second on, its home tuner hears a label or its length has passed, so that the clock adds nothing.
 
 | sheet | what it shows |
 |---|---|

@@ -7,6 +7,8 @@ use crate::faults::Fault;
 #[derive(Clone, Copy, PartialEq, Eq)]
 pub(super) enum Turn {
     Packet,
+    /// A packet that moves a timer.
+    Update,
     Wait,
     Add,
     Cancel,
@@ -30,6 +32,7 @@ impl Desk {
                 Fault::CountThroughCancel
                     | Fault::CountThroughAdd
                     | Fault::CountThroughWait
+                    | Fault::CountThroughUpdate
                     | Fault::CountBeforeMoment
                     | Fault::CountNeverFalls
                     | Fault::CountNoughtIfRefused
@@ -55,6 +58,7 @@ impl Desk {
             Some(Fault::CountThroughCancel) => self.turn == Turn::Cancel,
             Some(Fault::CountThroughAdd) => self.turn == Turn::Add,
             Some(Fault::CountThroughWait) => self.turn == Turn::Wait,
+            Some(Fault::CountThroughUpdate) => self.turn == Turn::Update,
             _ => false,
         };
         let now = self.live_copies();

@@ -1,11 +1,12 @@
 -- Each exit is a case of the definition: whether the label there still matches comes first, and says that the window is open.
 use mathlib.Core.Bool.{true, false}
 use mathlib.Core.Path.{_≡_, refl, sym, _∙_}
+use borrow.Author.Tests.{not-true, not-false}
 use lib.ListN.{getD}
 use Rattle.places.specs.Places.{noLabel}
-use Rattle.matching.specs.Matching.{endedAt, matches}
+use Rattle.matching.specs.Matching.{openAt, matches}
 use Rattle.rule.specs.Rule.{recordingAt}
-use Rattle.rule.proofs.Steps.{moves-not-live, live-over, recording-stays, recording-leaves}
+use Rattle.rule.proofs.Steps.{moves-not-live, live-shut, recording-stays, recording-leaves}
 use borrow.Author.Needs.{needs}
 use Rattle.rule.proofs.copies.from_recording.Statement.{statement}
 use Rattle.rule.proofs.copies.from_recording.Tie as tie
@@ -25,14 +26,14 @@ returns c =
     let still : matches (a .s) (a .b) (getD (a .places) (a .p) noLabel) ≡ true = rw there at (sym (m .matches .ensures) ∙ c .if1 .taken) in
     rw (recording-stays (a .s) (a .places) (a .b) (a .p) (a .mi) still, there)
 
-ended-at-requires : tie.Need-ended-at-requires
-ended-at-requires c κs = search needs
+open-at-requires : tie.Need-open-at-requires
+open-at-requires c κs = search needs
 
 returns-2 : tie.Need-returns-2
 returns-2 c =
     let a = c .before .before .before .before .before .args in
-    let over : endedAt (a .s) (a .b) ≡ true = sym (c .before .ended-at .ensures) ∙ c .if2 .taken in
-    sym (live-over (a .s) (a .places) (a .b) _ refl over)
+    let shut : openAt (a .s) (a .b) ≡ false = sym (c .before .open-at .ensures) ∙ not-true _ (c .if2 .taken) in
+    sym (live-shut (a .s) (a .places) (a .b) _ refl shut)
 
 sight-of-requires : tie.Need-sight-of-requires
 sight-of-requires c κs = search needs
@@ -48,9 +49,9 @@ returns-3 c =
     let a = m .before .before .args in
     let gone : matches (a .s) (a .b) (getD (a .places) (a .p) noLabel) ≡ false =
     rw (m .before .label-at .ensures) at (sym (m .matches .ensures) ∙ o .before .if1 .left) in
-    let lasts : endedAt (a .s) (a .b) ≡ false = sym (o .ended-at .ensures) ∙ v .before .if2 .left in
+    let opened : openAt (a .s) (a .b) ≡ true = sym (o .open-at .ensures) ∙ not-false _ (v .before .if2 .left) in
     let remembered : a .mi ≡ true = c .before .if3 .taken in
-    rw (recording-leaves (a .s) (a .places) (a .b) (a .p) (a .mi) gone lasts, remembered, ← v .sight-of .ensures, moves-not-live) (c .not-live .ensures)
+    rw (recording-leaves (a .s) (a .places) (a .b) (a .p) (a .mi) gone opened, remembered, ← v .sight-of .ensures, moves-not-live) (c .not-live .ensures)
 
 moves-or-requires : tie.Need-moves-or-requires
 moves-or-requires c κs = search needs
@@ -63,9 +64,9 @@ returns-4 c =
     let a = m .before .before .args in
     let gone : matches (a .s) (a .b) (getD (a .places) (a .p) noLabel) ≡ false =
     rw (m .before .label-at .ensures) at (sym (m .matches .ensures) ∙ o .before .if1 .left) in
-    let lasts : endedAt (a .s) (a .b) ≡ false = sym (o .ended-at .ensures) ∙ v .before .if2 .left in
+    let opened : openAt (a .s) (a .b) ≡ true = sym (o .open-at .ensures) ∙ not-false _ (v .before .if2 .left) in
     let remembered : a .mi ≡ false = c .before .if3 .left in
-    rw (recording-leaves (a .s) (a .places) (a .b) (a .p) (a .mi) gone lasts, remembered, ← v .sight-of .ensures) (c .moves-or .ensures)
+    rw (recording-leaves (a .s) (a .places) (a .b) (a .p) (a .mi) gone opened, remembered, ← v .sight-of .ensures) (c .moves-or .ensures)
 
 pub from-recording-spec : {M : Type 1} → statement M
 from-recording-spec =
@@ -74,7 +75,7 @@ from-recording-spec =
     label-at-requires
     matches-requires
     returns
-    ended-at-requires
+    open-at-requires
     returns-2
     sight-of-requires
     not-live-requires
