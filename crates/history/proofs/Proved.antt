@@ -15,7 +15,7 @@ use Rattle.history.proofs.Chain.{each-moment}
 use Rattle.history.proofs.Prepared.{after-60, since, prepares, break}
 use Rattle.history.proofs.Clock.{by-the-clock, no-gap, taken-over, clock-ends-prepared}
 use Rattle.history.proofs.Silent.{silent-home, never-hears}
-use Rattle.history.proofs.Updates.{update-does, repeat-waits, refused-leaves, update-elsewhere, update-only, update-takes, update-twin, update-moves, update-leaves}
+use Rattle.history.proofs.Updates.{update-does, update-asks, repeat-waits, refused-leaves, update-elsewhere, update-only, update-takes, update-twin, update-moves, update-leaves}
 
 pub laws : Laws
 unfolding walkedTo
@@ -46,6 +46,7 @@ laws =
       taken-over = λ s q ls b. taken-over s ls b q;
       clock-ends-prepared = λ s v ls b. clock-ends-prepared s ls b v;
       update-does = update-does;
+      update-asks = update-asks;
       repeat-waits = repeat-waits;
       refused-leaves = refused-leaves;
       update-elsewhere = update-elsewhere;

@@ -5,15 +5,18 @@ use mathlib.Core.Bool.{Bool, true, false, cond, not, _&&_, true≢false}
 use mathlib.Core.List.{List, [], _∷_}
 use native.Mathlib.Decide.{decLt}
 use native.Mathlib.Omega.{arith}
-use borrow.Author.Tests.{eqb-true, eq-eqb, le-ltb}
+use borrow.Author.Tests.{eqb-true, eq-eqb, le-ltb, ltb-false}
 use lib.Dec.{eqb}
 use lib.ListN.{getD, set}
-use Rattle.answer.specs.Answer.{refused, given, firstOf}
+use Rattle.answer.specs.Answer.{Answer, refused, given, firstOf, andThen}
 use Rattle.answer.specs.Lists.{some}
 use Rattle.answer.proofs.Cases.{by-test, both-true}
+use Rattle.answer.proofs.Every.{accepted}
+use Rattle.label.specs.declared.Label.{Label}
+use Rattle.label.specs.Packet.{readingOf}
 use Rattle.calendar.specs.Calendar.{clockEnd}
 use Rattle.places.specs.declared.Stamped.{Stamped}
-use Rattle.places.specs.Places.{noLabel, stands}
+use Rattle.places.specs.Places.{noLabel, flag, stands}
 use Rattle.matching.specs.declared.Booking.{Booking}
 use Rattle.matching.specs.Matching.{openAt, endedAt, matches, sightOf}
 use Rattle.rule.specs.declared.Copy.the-variants.{Waiting, Recording, RunningOn}
@@ -21,14 +24,14 @@ use Rattle.rule.specs.declared.Timer.{Timer}
 use Rattle.rule.specs.Rule.{notLive, movesOr, held, nextCopy, nextTimer}
 use Rattle.rule.proofs.Steps.{live-shut, recording-leaves, free-stays}
 use Rattle.sixteen.specs.Sixteen.{noTimer, active, sameBooking}
-use Rattle.moving.specs.Moving.{Update, repeats, moves, isRepeat, yearFor, movedTo, movedIn}
+use Rattle.moving.specs.Moving.{Update, repeats, moves, isRepeat, yearFor, movedTo, updateFor, movedIn}
 use Rattle.moving.proofs.Update.{Moved, meant-matches, moved-by}
 use Rattle.desk.specs.declared.Desk.{Desk}
 use Rattle.desk.specs.Moments.{moment, passTo}
 use Rattle.desk.specs.Calls.{tunerRows, withTimer, timerAt, updatingAt, updating, obeying, packetOf, waitOf}
 use Rattle.desk.proofs.Settle.{Settled}
 use Rattle.desk.proofs.Jump.{none-at, timerAt-moment}
-use Rattle.history.specs.Run.{Call, wait, onlyDesk, outcome, left, deskAfter}
+use Rattle.history.specs.Run.{Call, packet, wait, onlyDesk, outcome, left, deskAfter}
 use Rattle.history.specs.Update.{standingAt, Asks, OtherHolds}
 use Rattle.history.specs.Laws.{Sound}
 use Rattle.history.proofs.Windows.{open-not-ended, matches-open}
@@ -59,6 +62,43 @@ module _ (u : Update) (c : Call) (d : Desk) (a : Asks u c d) where
   after-update : deskAfter (c ∷ []) d ≡ updatingAt (a .t) u d
   unfolding deskAfter
   after-update = ap (left d) update-does
+
+pub then-given : {A B : Type 0} (x : Answer A) (next : A → Answer B) (c : B) → andThen x next ≡ given c → (a : A) × (x ≡ given a) × (next a ≡ given c)
+then-given (refused n) next c e = absurd (let z : _≡_ {A = ℕ} 0 1 = cc in omega arith)
+then-given (given a) next c e = (a, refl, e)
+
+-- what is accepted was read, was not barred, and is obeyed
+pub packet-obeyed : (tuner t : ℕ) (bytes : List ℕ) (l : Label) (d e : Desk) → readingOf bytes ≡ given l → packetOf tuner t bytes d ≡ given e →
+    ((tuner ≤ 3) × (d .clock ≤ t) × (t ≤ clockEnd)) × (obeying tuner t l d ≡ given e)
+unfolding packetOf
+packet-obeyed tuner t bytes l d e r g =
+    let x = then-given (firstOf (tunerRows d tuner t) bytes) _ e g in
+    let gate = accepted bytes (x .0) (tunerRows d tuner t) (x .1) in
+    let y = then-given (readingOf (x .0)) _ e (x .2) in
+    let same : l ≡ y .0 = let z : readingOf (x .0) ≡ given l = rw (← gate .1) r in cc in
+    ((ltb-false 3 tuner (gate .0 .0), ltb-false t (d .clock) (gate .0 .1 .0), ltb-false clockEnd t (gate .0 .1 .1 .0)), rw same (y .2))
+
+pub update-asks : (tuner t : ℕ) (bytes : List ℕ) (l : Label) (d e : Desk) → readingOf bytes ≡ given l → flag (l .luf) ≡ true →
+    packetOf tuner t bytes d ≡ given e → (u : Update) × Asks u (packet tuner t bytes) d
+unfolding obeying updating
+update-asks tuner t bytes l d e r f g =
+    let o = packet-obeyed tuner t bytes l d e r g in
+    let u = then-given (updateFor t (standingAt tuner l d) l (d .timers)) (λ v. given (updatingAt t v d)) e (rw f at (o .1)) in (
+      u .0,
+      record {
+        tuner = tuner;
+        t = t;
+        bytes = bytes;
+        label = l;
+        call = refl;
+        four = o .0 .0;
+        from = o .0 .1;
+        to = o .0 .2;
+        read = r;
+        luf = f;
+        asks = u .1;
+      },
+    )
 
 -- a wait to a second that is neither before the clock nor past its end
 after-wait : (d : Desk) (t : ℕ) → d .clock ≤ t → t ≤ clockEnd → deskAfter (wait t ∷ []) d ≡ moment (passTo t d)

@@ -8,9 +8,11 @@ use lib.Dec.{ltb, eqb}
 use lib.ListN.{length, getD, take}
 use Rattle.answer.specs.Answer.{Answer, refused, given}
 use Rattle.answer.specs.Lists.{count}
+use Rattle.label.specs.declared.Label.{Label}
+use Rattle.label.specs.Packet.{readingOf}
 use Rattle.calendar.specs.Calendar.{clockEnd, windowIn}
 use Rattle.calendar.specs.declared.Window.{Window}
-use Rattle.places.specs.Places.{noLabel, labelsFail}
+use Rattle.places.specs.Places.{noLabel, flag, labelsFail}
 use Rattle.matching.specs.Matching.{openAt, matches, sightOf}
 use Rattle.clocked.specs.Clocked.{outOfRange, inLength, clocked}
 use Rattle.rule.specs.Rule.{recordingAt, notLive, movesOr, nextCopy, nextTimer, held, isLive, liveTimer}
@@ -197,6 +199,9 @@ pub record Laws : Type 0 where
   -- ── label updates (02, #107) ─────────────────────────────────────────────────────────────────────────────────────
   -- what a packet with LUF 1 asks for is done, and tells no number
   pub update-does : (u : Update) (c : Call) (d : Desk) (a : Asks u c d) → outcome c d ≡ given (record { tells = []; desk = updatingAt (a .t) u d })
+  -- and each that is accepted asks for something
+  pub update-asks : (tuner t : ℕ) (bytes : List ℕ) (l : Label) (d e : Desk) → readingOf bytes ≡ given l → flag (l .luf) ≡ true →
+      packetOf tuner t bytes d ≡ given e → (u : Update) × Asks u (packet tuner t bytes) d
   -- 'a packet repeating the standing label is accepted and only moves the clock': it is exactly a wait to its second
   pub repeat-waits : (c : Call) (d : Desk) (a : Asks repeats c d) → deskAfter (c ∷ []) d ≡ deskAfter (wait (a .t) ∷ []) d
   -- a call that is refused leaves everything

@@ -6,10 +6,10 @@ use mathlib.Core.List.{List, [], _∷_}
 use mathlib.Core.Logic.{_⊎_, inl, inr}
 use native.Mathlib.Omega.{arith}
 use native.Mathlib.Decide.{decLe}
-use borrow.Author.Tests.{lt-ltb, le-ltb, ltb-false, eqb-true, eqb-false}
+use borrow.Author.Tests.{lt-ltb, le-ltb, eqb-true, eqb-false}
 use lib.Dec.{eqb}
 use lib.ListN.{getD, set}
-use Rattle.answer.specs.Answer.{Answer, refused, given, firstOf, andThen}
+use Rattle.answer.specs.Answer.{given}
 use Rattle.answer.proofs.Cases.{by-test}
 use Rattle.label.specs.declared.Label.{Label}
 use Rattle.label.specs.declared.pil.Service.the-variants.{Programme, InhibitTerminate}
@@ -30,7 +30,7 @@ use Rattle.matching.specs.declared.Sight.{Sight}
 use Rattle.matching.specs.declared.Sight.the-variants.{Nothing, Prepare, Start}
 use Rattle.desk.specs.declared.Desk.{Desk}
 use Rattle.desk.specs.Moments.{moment, passTo}
-use Rattle.desk.specs.Calls.{tunerRows, placeOf, withLabel, hearingAt, updating, obeying, packetOf, timerAt}
+use Rattle.desk.specs.Calls.{placeOf, withLabel, hearingAt, updating, obeying, packetOf, timerAt}
 use Rattle.desk.proofs.Settle.{nextCopy-open, start-matches, prepare-matches, moment-settled}
 use Rattle.desk.proofs.Jump.{timerAt-moment}
 use Rattle.history.proofs.Waits.{passTo-clock}
@@ -42,6 +42,7 @@ use Rattle.history.proofs.Next.{next-is, next-held}
 use Rattle.history.proofs.Chain.{Chain, chain-calls}
 use Rattle.history.proofs.Prepared.{Has, goes-to, all-touch}
 use Rattle.history.proofs.Silent.{next-unheard}
+use Rattle.history.proofs.Updates.{packet-obeyed}
 use Rattle.marked.specs.Marked.{Terminated, NothingElse, Labelled, Undisturbed, RunsOut}
 use Rattle.marked.proofs.Prepared.{moves-not, starts-not}
 
@@ -59,10 +60,6 @@ stored-or z v [] i = inr refl
 stored-or z v (x ∷ xs) zero = inl refl
 stored-or z v (x ∷ xs) (suc i) = stored-or z v xs i
 
-then-given : {A B : Type 0} (x : Answer A) (next : A → Answer B) (c : B) → andThen x next ≡ given c → (a : A) × (x ≡ given a) × (next a ≡ given c)
-then-given (refused n) next c e = absurd (let z : _≡_ {A = ℕ} 0 1 = cc in omega arith)
-then-given (given a) next c e = (a, refl, e)
-
 -- with LUF 1 a code is never accepted
 code-heard : (tuner t : ℕ) (l : Label) (d e : Desk) → serviceOf (l .pil) ≡ InhibitTerminate → obeying tuner t l d ≡ given e → e ≡ hearingAt tuner t l d
 unfolding obeying updating
@@ -74,13 +71,10 @@ code-heard tuner t l d e code g =
 
 packet-given : (tuner t : ℕ) (bytes : List ℕ) (l : Label) (d e : Desk) → serviceOf (l .pil) ≡ InhibitTerminate → readingOf bytes ≡ given l →
     packetOf tuner t bytes d ≡ given e → (d .clock ≤ t) × (e ≡ moment (withLabel tuner l (passTo t d)))
-unfolding packetOf hearingAt
+unfolding hearingAt
 packet-given tuner t bytes l d e code r g =
-    let x = then-given (firstOf (tunerRows d tuner t) bytes) _ e g in
-    let gate = accepted bytes (x .0) (tunerRows d tuner t) (x .1) in
-    let y = then-given (readingOf (x .0)) _ e (x .2) in
-    let same : l ≡ y .0 = let z : readingOf (x .0) ≡ given l = rw (← gate .1) r in cc in
-    (ltb-false t (d .clock) (gate .0 .1 .0), code-heard tuner t l d e code (rw same (y .2)))
+    let o = packet-obeyed tuner t bytes l d e r g in
+    (o .0 .1, code-heard tuner t l d e code (o .1))
 
 -- ── the moments of a run-on ────────────────────────────────────────────────────────────────────────────────────────
 module _ (t slot p : ℕ) (b : Booking) where
