@@ -27,3 +27,7 @@ past (suc k) m t = up (past k m (t .0)) (t .1)
   where
     up : k ≤ m → (m ≡ k → ⊥) → suc k ≤ m
     up h n = omega arith
+
+pub either-true : (a b : Bool) {P : Type 0} → (a || b) ≡ true → (a ≡ true → P) → (b ≡ true → P) → P
+either-true true b e f g = f refl
+either-true false b e f g = g e

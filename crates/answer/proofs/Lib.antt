@@ -4,4 +4,5 @@ pub mod Every
 pub mod Counts
 pub mod Answers
 pub mod Texts
+pub mod Filled
 pub mod Proved

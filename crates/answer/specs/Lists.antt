@@ -3,6 +3,7 @@ use Prim.Native.Nat.{ℕ, _+_}
 use mathlib.Core.Bool.{Bool, false, cond, _||_}
 use mathlib.Core.List.{List, [], _∷_, _++_}
 use lib.Dec.{eqb}
+use lib.ListN.{take, replicate}
 
 -- some element passes the test
 abbrev pub some : {A : Type 0} → (A → Bool) → List A → Bool
@@ -23,3 +24,7 @@ count f (x ∷ xs) = cond (f x) 1 0 + count f xs
 abbrev pub joined : List (List ℕ) → List ℕ
 joined [] = []
 joined (p ∷ ps) = p ++ joined ps
+
+-- the first n of some elements, and others where there are fewer
+abbrev pub filled : {A : Type 0} → ℕ → A → List A → List A
+filled n z xs = take n (xs ++ replicate n z)

@@ -14,7 +14,8 @@ use Rattle.programmes.specs.declared.Series.the-variants as series
 use Rattle.programmes.specs.declared.Programme.{Programme}
 use Rattle.programmes.specs.declared.pil.Pil.{Pil}
 use Rattle.programmes.specs.declared.pil.Pil.the-variants.{NoPil, Label}
-use Rattle.programmes.specs.Page.{readingOf, blank, filled, most}
+use Rattle.answer.specs.Lists.{filled}
+use Rattle.programmes.specs.Page.{readingOf, blank, most}
 use Rattle.programmes.specs.Timer.{pilOf}
 use Rattle.programmes.specs.Written.{Wrote, writingOf}
 

@@ -19,7 +19,7 @@ use Rattle.triplet.specs.Word.{good}
 use Rattle.programmes.specs.declared.Programme.{Programme}
 use Rattle.programmes.specs.Written.{groupsFor, bitsAt, byteOf, byteIn, bytesTo, outside}
 use Rattle.programmes.specs.Meaning.{nothing}
-use Rattle.programmes.proofs.Filled.{filled-at}
+use Rattle.answer.proofs.Filled.{filled-at}
 use Rattle.programmes.proofs.Ranges.{Sendable, sendable}
 use Rattle.sending.specs.Sending.{room, wordsOf}
 

@@ -12,8 +12,9 @@ use lib.ListN.{length, getD, set, replicate, length-append, length-take, length-
 use lib.Seq.{set-out, set-set, getD-set-same}
 use Rattle.programmes.specs.declared.Programme.{Programme}
 use Rattle.programmes.specs.declared.Page.{Page}
-use Rattle.programmes.specs.Page.{most, filled, blank, pageOf}
-use Rattle.programmes.proofs.Filled.{filled-more}
+use Rattle.programmes.specs.Page.{most, blank, pageOf}
+use Rattle.answer.specs.Lists.{filled}
+use Rattle.answer.proofs.Filled.{filled-more}
 use Rattle.sequence.specs.Sequence.{onLast}
 use Rattle.sequence.proofs.Made.{last-more}
 

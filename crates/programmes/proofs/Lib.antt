@@ -1,5 +1,4 @@
 pub mod Facts
-pub mod Filled
 pub mod Rows
 pub mod Meant
 pub mod Ranges

@@ -3,9 +3,9 @@ use Prim.Native.Nat.{ℕ, zero, suc, _+_, _*_, _/_}
 use mathlib.Core.Bool.{Bool, true, false, not, _&&_, _||_}
 use mathlib.Core.List.{List, [], _∷_, _++_, map}
 use lib.Dec.{ltb, eqb}
-use lib.ListN.{length, getD, take, replicate}
+use lib.ListN.{length, getD}
 use Rattle.answer.specs.Answer.{Answer, Row, firstOf}
-use Rattle.answer.specs.Lists.{some}
+use Rattle.answer.specs.Lists.{some, filled}
 use Rattle.hamming.specs.Byte.{nibbleOf}
 use Rattle.hamming.specs.declared.Nibble.{Nibble}
 use Rattle.label.specs.Packet.{damaged, valueOf}
@@ -126,10 +126,6 @@ blank = record {
 -- source and the date, without which no programme is, and each programme takes two (law `at-most-103`).
 abbrev pub most : ℕ
 most = 103
-
--- the first n of some elements, and others where there are fewer
-abbrev pub filled : {A : Type 0} → ℕ → A → List A → List A
-filled n z xs = take n (xs ++ replicate n z)
 
 unfoldable pub pageOf : List Programme → Page
 pageOf qs = record { count = length qs; programmes = filled most blank qs }

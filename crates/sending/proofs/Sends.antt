@@ -14,9 +14,9 @@ use Rattle.programmes.specs.declared.Series.{Series}
 use Rattle.programmes.specs.declared.Series.the-variants as series
 use Rattle.programmes.specs.declared.Programme.{Programme}
 use Rattle.programmes.specs.declared.InForce.{InForce}
-use Rattle.programmes.specs.Page.{filled}
+use Rattle.answer.specs.Lists.{filled}
 use Rattle.programmes.specs.Written.{sameOffset, sameSource, sameDate, sourceSent, dateSent, offsetSent, pairSent, finishSent, seriesSent, groupsOf, forceOf, groupsFrom, groupsFor}
-use Rattle.programmes.proofs.Filled.{filled-none, filled-more}
+use Rattle.answer.proofs.Filled.{filled-none, filled-more}
 use Rattle.sending.specs.declared.Words.{Words}
 use Rattle.sending.specs.Sending.{room, wordsOf, more, sent}
 

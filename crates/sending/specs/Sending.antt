@@ -6,7 +6,7 @@ use Rattle.group.specs.declared.Group.{Group}
 use Rattle.group.specs.declared.Group.the-variants as group
 use Rattle.group.specs.Group.{bitsOf}
 use Rattle.programmes.specs.declared.Programme.{Programme}
-use Rattle.programmes.specs.Page.{filled}
+use Rattle.answer.specs.Lists.{filled}
 use Rattle.programmes.specs.Written.{groupsFor}
 use Rattle.sending.specs.declared.Words.{Words}
 

@@ -1,7 +1,7 @@
 use borrow.Author.Needs.{needs}
 use mathlib.Core.Path.{refl}
 use Rattle.programmes.specs.Page.{most, blank, pageOf}
-use Rattle.programmes.proofs.Filled.{filled-none}
+use Rattle.answer.proofs.Filled.{filled-none}
 use Prim.Native.Nat.{_-_}
 use Rattle.preselection.proofs.page.none.Statement.{statement}
 use Rattle.preselection.proofs.page.none.Tie as tie

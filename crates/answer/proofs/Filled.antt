@@ -5,7 +5,7 @@ use mathlib.Core.List.{List, [], _∷_, _++_}
 use native.Mathlib.Omega.{arith}
 use lib.ListN.{length, getD, take, set, replicate, getD-replicate}
 use lib.Seq.{getD-take}
-use Rattle.programmes.specs.Page.{filled}
+use Rattle.answer.specs.Lists.{filled}
 
 module _ {A : Type 0} (z : A) where
   take-replicate : (n m : ℕ) → n ≤ m → take n (replicate m z) ≡ replicate n z

@@ -1,0 +1,3 @@
+pub mod Times
+pub mod Taken
+pub mod Laws

@@ -1,0 +1,10 @@
+pub mod Readings
+pub mod Along
+pub mod Texts
+pub mod Most
+pub mod Only
+pub mod Whole
+pub mod Pairs
+pub mod Codes
+pub mod Steps
+pub mod Proved

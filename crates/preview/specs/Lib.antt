@@ -1,0 +1,4 @@
+pub mod Page
+pub mod Taken
+pub mod Rows
+pub mod Laws

@@ -1,0 +1,4 @@
+pub mod Title
+pub mod Row
+pub mod Taken
+pub mod Laws
