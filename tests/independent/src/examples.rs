@@ -4,6 +4,7 @@ use crate::paper;
 use crate::preselection::group::{value, DATE, FINISHING, MINUTES, OFFSET, SERIES, SOURCE, STARTING, TERMINATOR};
 use crate::preselection::{self, Finish, Programme, PACKET, ROOM, TRIPLETS};
 
+#[derive(Clone)]
 pub struct Example {
     pub name: &'static str,
     /// What the class gets wrong, and what the page shows.

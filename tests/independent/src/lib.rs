@@ -12,6 +12,8 @@ pub mod on_air;
 pub mod pages;
 pub mod paper;
 pub mod preselection;
+pub mod preview;
+pub mod previews;
 pub mod random;
 pub mod scenes;
 pub mod sheet;

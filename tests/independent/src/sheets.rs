@@ -8,15 +8,21 @@ use crate::sheet::TIMER;
 /// How many sheets the tests play.
 pub const SHEETS: u64 = 10_000;
 
+/// The bytes of a whole section of timers, with its count.
+pub fn timers_section(timers: &[Timer]) -> Vec<u8> {
+    let mut section = vec![timers.len() as u8];
+    for timer in timers {
+        section.extend(timer.cni.to_be_bytes());
+        section.extend(&timer.pil.to_be_bytes()[1..]);
+        section.extend([timer.year, timer.tuner]);
+        section.extend(timer.length.to_be_bytes());
+    }
+    section
+}
+
 /// The bytes of whole sections, with these counts.
 pub fn bytes(timers: &[Timer], packets: &[Packet]) -> Vec<u8> {
-    let mut sheet = vec![timers.len() as u8];
-    for timer in timers {
-        sheet.extend(timer.cni.to_be_bytes());
-        sheet.extend(&timer.pil.to_be_bytes()[1..]);
-        sheet.extend([timer.year, timer.tuner]);
-        sheet.extend(timer.length.to_be_bytes());
-    }
+    let mut sheet = timers_section(timers);
     sheet.extend((packets.len() as u16).to_be_bytes());
     for (time, tuner, packet) in packets {
         sheet.extend(time.to_be_bytes());

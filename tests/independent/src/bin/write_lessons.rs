@@ -1,6 +1,7 @@
-//! Writes the sheets of `sheets/` and the pages of `pages.d/`, with what the independent side prints for each:
+//! Writes the sheets of `sheets/` and the pages of `pages.d/` and `preview.d/`, with what the independent side prints for each:
 //! `tools/cargo --own run --manifest-path tests/independent/Cargo.toml`.
-use independent::{aerial, examples, preselection, sheet, teaching};
+use independent::examples::Example;
+use independent::{aerial, examples, preselection, preview, sheet, teaching};
 use std::{fs, path::Path};
 
 const SHEETS: &str = "\
@@ -30,6 +31,21 @@ series is `-` or its code. `Z` and the count of programmes close a page. A refus
 |---|---|
 ";
 
+const PREVIEWS: &str = "\
+# Preview pages
+
+Each `NAME.page` has the 24 rows of 40 codes of one preview page, from the top; `NAME.out` is what is printed for it. What they hold is
+written out in `tests/independent/src/preview/examples.rs`.
+
+A line `V row column start finish day month year network original offset type record` is a programme. Row and column are those of its
+title, counted from 0; times are `h:m`, and an original time of `25:0` has record 0, which is not to be recorded; the year is its two
+figures; the network is four hexadecimal digits; the offset is in quarters of an hour, with `-` for 9zz; the type is 0 where none is
+given. `Z` and the count of programmes close a page. A refused page is `R` and its number alone.
+
+| page | what it shows |
+|---|---|
+";
+
 /// Writes the files of a directory at the top, and its page behind these lines.
 fn directory(name: &str, head: &str, rows: Vec<(&str, &str)>, files: Vec<(String, Vec<u8>)>) {
     let dir = Path::new(env!("CARGO_MANIFEST_DIR")).join("../..").join(name);
@@ -51,17 +67,18 @@ fn sheets() {
     directory("sheets", SHEETS, lessons.iter().map(|lesson| (lesson.name, lesson.line)).collect(), files);
 }
 
-fn pages() {
-    let examples = examples::examples();
+/// Each example's page, and what is printed for it.
+fn stored(name: &str, head: &str, examples: Vec<Example>, print: fn(&[u8]) -> String) {
     let mut files = Vec::new();
     for example in &examples {
-        files.push((format!("{}.out", example.name), preselection::print(&example.page).into_bytes()));
+        files.push((format!("{}.out", example.name), print(&example.page).into_bytes()));
         files.push((format!("{}.page", example.name), example.page.clone()));
     }
-    directory("pages.d", PAGES, examples.iter().map(|example| (example.name, example.line)).collect(), files);
+    directory(name, head, examples.iter().map(|example| (example.name, example.line)).collect(), files);
 }
 
 fn main() {
     sheets();
-    pages();
+    stored("pages.d", PAGES, examples::examples(), preselection::print);
+    stored("preview.d", PREVIEWS, preview::examples::examples(), preview::print);
 }
