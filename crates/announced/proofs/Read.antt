@@ -1,14 +1,13 @@
 -- Times and titles taken one at a time read as what they must read as, stage by stage.
-use Prim.Native.Nat.{ℕ}
 use mathlib.Core.Bool.{Bool, true, false, true≢false}
-use mathlib.Core.Path.{_≡_, refl, sym, ap, _∙_}
-use mathlib.Core.List.{List, [], _∷_, _++_}
+use mathlib.Core.Path.{_≡_, refl, sym, _∙_}
+use mathlib.Core.List.{List, [], _∷_}
 use Rattle.announced.specs.declared.Time.{Time}
 use Rattle.announced.specs.declared.Announcement.{Announcement}
 use Rattle.announced.specs.declared.Stage.{Stage}
 use Rattle.announced.specs.declared.Stage.the-variants.{First, Single, Titled, Double, Ended, Wrong}
 use Rattle.announced.specs.Times.{Mark, S, D, T, Before, nothing, single, double, noTime, announced, Announces, starts, lasts, part-single, part-double, finishes, ends}
-use Rattle.announced.specs.Taken.{mayEnd, stageAfter, announcedBy, stageFrom, announcedFrom}
+use Rattle.announced.specs.Taken.{mayEnd, stageFrom, announcedFrom}
 
 -- what may stand before a single time that may be the last, and before one that may not
 abbrev allows : Bool → Before

@@ -1,7 +1,7 @@
 -- Which format stands at a code: the kind that the codes up to the next mark have.
-use Prim.Native.Nat.{ℕ, zero, suc, _+_, _≤_, _<_}
+use Prim.Native.Nat.{ℕ, suc, _+_, _<_}
 use mathlib.Core.Path.{_≡_, refl, sym, ap, _∙_}
-use mathlib.Core.Bool.{Bool, true, false, cond, not, _&&_, _||_, true≢false}
+use mathlib.Core.Bool.{true, false, cond, _||_, true≢false}
 use mathlib.Core.List.{List, [], _∷_, _++_}
 use native.Mathlib.Omega.{arith}
 use borrow.Author.Tests.{leb-true, eqb-true, ne-eqb, le-leb, lt-leb}
@@ -18,7 +18,7 @@ use Rattle.figures.specs.declared.Kind.the-variants as kind
 use Rattle.figures.specs.Codes.{isColour, isMagenta, isConceal, isDecimal, isLetter, isMark}
 use Rattle.figures.specs.Formats.{startOf, isColoured, isInPlain, isMagentaStart, isInMagenta, starts, pattern, shows, fits, figuresBy, isEnd, Stands}
 use Rattle.figures.specs.Permitted.{at}
-use Rattle.figures.specs.Taken.{colouredBy, plainBy, eitherBy, hiddenBy, kindBy, isText, kindIn}
+use Rattle.figures.specs.Taken.{eitherBy, kindBy, isText, kindIn}
 
 -- the codes up to the next mark, and those from it on
 unfoldable pub until : List ℕ → List ℕ

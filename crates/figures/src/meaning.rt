@@ -3,7 +3,7 @@ ghost use mathlib.Core.Path.{_≡_};
 ghost use Prim.Native.Nat.{_+_, _*_};
 ghost use Rattle.figures.specs.Codes.{figure};
 ghost use Rattle.figures.specs.Formats.{pattern, figuresBy};
-ghost use Rattle.figures.specs.Permitted.{isTime, isNotRecorded, february, isShort, daysIn, isDate, valueOf, counted};
+ghost use Rattle.figures.specs.Permitted.{isTime, february, daysIn, valueOf, counted};
 ghost use Rattle.figures.specs.Taken.{ownCodes, singleBy, doubleBy, originalBy, dateBy, networkBy, offsetBy, ptyBy};
 use crate::Kind;
 use crate::Offset;

@@ -1,15 +1,14 @@
 -- The data taken one at a time read as what they must read as.
 use Prim.Native.Nat.{ℕ}
-use mathlib.Core.Bool.{Bool, true, false, not, _&&_, _||_, true≢false, or-true}
+use mathlib.Core.Bool.{Bool, true, false, not, true≢false}
 use mathlib.Core.Path.{_≡_, refl, sym, ap, subst, _∙_}
-use mathlib.Core.List.{List, [], _∷_, _++_}
-use borrow.Author.Tests.{not-true, not-false}
-use Rattle.answer.proofs.Cases.{by-test, both-true}
+use mathlib.Core.List.{List, [], _∷_}
+use Rattle.answer.proofs.Cases.{by-test}
 use Rattle.originals.specs.declared.InForce.{InForce}
 use Rattle.originals.specs.declared.Original.{Original}
 use Rattle.originals.specs.declared.Data.{Data}
 use Rattle.originals.specs.Data.{Datum, N, A, O, Y, Two, withNetwork, withDate, withOffset, withType, originalBy, isComplete, nothing, Gives, network, date, offset, type, last, next}
-use Rattle.originals.specs.Taken.{dataStart, dataAfter, originalsBy, mayEnd, dataFrom, originalsFrom}
+use Rattle.originals.specs.Taken.{dataStart, dataAfter, mayEnd, dataFrom, originalsFrom}
 
 abbrev along : InForce → Bool → Bool → Bool → Data
 along f typed ended wrong = record { force = f; typed = typed; ended = ended; wrong = wrong }

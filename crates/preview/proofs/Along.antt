@@ -1,7 +1,7 @@
 -- A page taken one code at a time holds what has been given out of it so far.
-use Prim.Native.Nat.{ℕ, zero, suc, _+_, _%_, min, _≤_, _<_}
+use Prim.Native.Nat.{ℕ, suc, _+_, _%_, min, _≤_}
 use mathlib.Core.Path.{_≡_, refl, sym, ap, _∙_}
-use mathlib.Core.Bool.{Bool, true, false, cond, not, _&&_, _||_, or-false, or-assoc, and-true}
+use mathlib.Core.Bool.{Bool, true, false, not, _&&_, _||_, or-false, or-assoc, and-true}
 use mathlib.Core.List.{List, [], _∷_, _++_, append-nil, append-assoc}
 use native.Mathlib.Omega.{arith}
 use borrow.Author.Tests.{ltb-true, ltb-false, eqb-true, eqb-false}
@@ -10,7 +10,7 @@ use lib.ListN.{length, set, replicate, length-append, length-take}
 use lib.Seq.{set-out}
 use Rattle.answer.specs.Lists.{some, filled}
 use Rattle.answer.proofs.Cases.{by-test}
-use Rattle.answer.proofs.Filled.{filled-none, filled-more}
+use Rattle.answer.proofs.Filled.{filled-more}
 use Rattle.figures.specs.declared.Kind.{Kind}
 use Rattle.figures.specs.declared.Kind.the-variants as kind
 use Rattle.figures.specs.declared.Value.{Value}
@@ -22,13 +22,13 @@ use Rattle.figures.specs.Taken.{isText, foundBy}
 use Rattle.rows.specs.declared.Row.{Row}
 use Rattle.rows.specs.Title.{beginsPair}
 use Rattle.rows.specs.Row.{Content, format, title}
-use Rattle.rows.specs.Taken.{kindHere, foundHere, titleHere, rowAfter, rowStart, givenHere, givenFrom, rowGiven}
+use Rattle.rows.specs.Taken.{kindHere, foundHere, titleHere, rowAfter, givenHere, givenFrom}
 use Rattle.announced.specs.declared.Time.{Time}
 use Rattle.announced.specs.declared.Announcement.{Announcement}
 use Rattle.announced.specs.declared.Stage.{Stage}
 use Rattle.announced.specs.declared.Stage.the-variants.{First, Single, Titled, Double, Ended, Wrong}
-use Rattle.announced.specs.Times.{Mark, S, D, T, time, timesIn, marksOf}
-use Rattle.announced.specs.Taken.{stageAfter, announcedBy, byTime, byTitle, afterTitle, stageFrom, announcedFrom, toldOf}
+use Rattle.announced.specs.Times.{Mark, T, time, timesIn, marksOf}
+use Rattle.announced.specs.Taken.{stageAfter, announcedBy, byTime, byTitle, stageFrom, announcedFrom, toldOf}
 use Rattle.originals.specs.declared.Original.{Original}
 use Rattle.originals.specs.declared.Data.{Data}
 use Rattle.originals.specs.Data.{Datum, dataIn, dataOf}
@@ -38,10 +38,10 @@ use Rattle.table.specs.declared.Words.the-variants.{Nothing, Same, Different}
 use Rattle.table.specs.declared.Announcements.{Announcements}
 use Rattle.table.specs.declared.Originals.{Originals}
 use Rattle.table.specs.declared.Table.{Table}
-use Rattle.preview.specs.Page.{tooHigh, allPermitted, sumIn, wordsIn, isEmpty, agrees}
+use Rattle.preview.specs.Page.{allPermitted, sumIn, wordsIn, isEmpty, agrees}
 use Rattle.preview.specs.Taken.{announcedIn, originalsIn}
 use Rattle.table.specs.Table.{most, oneMore, noAnnouncement, withTold, noOriginal, withGiven, wordAfter, wordsAfter, agreed, isWrong, tableStart, afterFormat, titledAt, withCode}
-use Rattle.preview.specs.Rows.{withGivenOut, withEnd, takenFrom, rowTaken}
+use Rattle.preview.specs.Rows.{withGivenOut, withEnd, takenFrom}
 
 -- ── one list after another ─────────────────────────────────────────────────────────────────────────────────────────
 times-append : (xs ys : List Content) → timesIn (xs ++ ys) ≡ timesIn xs ++ timesIn ys

@@ -7,7 +7,6 @@ use lib.Dec.{eqb}
 use Rattle.answer.specs.Answer.{Answer, Unique, number, after}
 use Rattle.answer.proofs.Answers.{equation, numbered, paired}
 use Rattle.preview.specs.declared.Programme.{Programme}
-use Rattle.preview.specs.declared.Reading.{Reading}
 use Rattle.preview.specs.declared.Verdict.{Verdict}
 use Rattle.preview.specs.declared.Verdict.the-variants.{Length, Unreadable, WrongWord, Read}
 use Rattle.preview.specs.Taken.{answerOf, pageOf, readNumber, ReadAs}

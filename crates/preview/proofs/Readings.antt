@@ -1,30 +1,28 @@
 -- What is taken of a page is its reading, and it has no other.
-use Prim.Native.Nat.{ℕ, zero, suc, _+_, _<_}
+use Prim.Native.Nat.{ℕ, zero, suc, _+_}
 use mathlib.Core.Path.{_≡_, refl, sym, ap, subst, _∙_}
-use mathlib.Core.Bool.{Bool, true, false, not, _&&_, _||_, true≢false}
-use mathlib.Core.List.{List, [], _∷_, _++_, append-nil, append-assoc}
+use mathlib.Core.Bool.{true, false, true≢false}
+use mathlib.Core.List.{List, [], _++_, append-nil, append-assoc}
 use native.Mathlib.Omega.{arith}
-use borrow.Author.Tests.{eqb-true, eqb-false, eq-eqb, ne-eqb, not-true, not-false}
+use borrow.Author.Tests.{eqb-true, eqb-false, eq-eqb, ne-eqb}
 use lib.Dec.{eqb}
 use lib.ListN.{length}
-use Rattle.answer.specs.Answer.{Answer, refused, given}
-use Rattle.answer.proofs.Cases.{by-test, both-true, both-false}
-use Rattle.rows.specs.Row.{Content, RowContains}
+use Rattle.answer.specs.Answer.{Answer}
+use Rattle.answer.proofs.Cases.{by-test, both-true}
+use Rattle.rows.specs.Row.{Content}
 use Rattle.rows.specs.Taken.{rowGiven}
 use Rattle.rows.proofs.Proved as rows
-use Rattle.announced.specs.declared.Time.{Time}
 use Rattle.announced.specs.declared.Announcement.{Announcement}
 use Rattle.announced.specs.declared.Stage.the-variants.{First}
-use Rattle.announced.specs.Times.{timesIn, Announces}
-use Rattle.announced.specs.Times as times
+use Rattle.announced.specs.Times.{timesIn}
 use Rattle.announced.specs.Taken as announced
 use Rattle.announced.proofs.Read as announces
 use Rattle.originals.specs.declared.Original.{Original}
-use Rattle.originals.specs.Data.{dataIn, nothing, Gives}
+use Rattle.originals.specs.Data.{dataIn}
 use Rattle.originals.specs.Taken as originals
 use Rattle.originals.proofs.Read as gives
 use Rattle.preview.specs.declared.Programme.{Programme}
-use Rattle.preview.specs.Page.{rowOf, tooHigh, RowsContain, end, row, allPermitted, Reading, Reads, programmesBy, agrees, Answers, wrong-length, no-reading, wrong-word, read}
+use Rattle.preview.specs.Page.{rowOf, tooHigh, RowsContain, end, row, allPermitted, Reading, Reads, agrees, Answers, wrong-length, no-reading, wrong-word, read}
 use Rattle.preview.specs.Taken.{givenTo, announcedIn, originalsIn, readable, answerOf}
 
 -- ── the rows ───────────────────────────────────────────────────────────────────────────────────────────────────────

@@ -1,15 +1,12 @@
 -- Characters without effect change nothing of a page's answer.
 use Prim.Native.Nat.{ℕ, zero, suc, _*_}
-use mathlib.Core.Path.{_≡_, refl, sym, ap, _∙_}
-use mathlib.Core.Bool.{Bool, false, _||_}
-use mathlib.Core.List.{List, [], _∷_, _++_}
+use mathlib.Core.Path.{_≡_, refl, _∙_}
+use mathlib.Core.Bool.{false}
+use mathlib.Core.List.{List, [], _∷_}
 use lib.Dec.{ltb}
-use lib.ListN.{length, take, drop}
+use lib.ListN.{take, drop}
 use Rattle.answer.specs.Answer.{Answer}
-use Rattle.answer.specs.Lists.{some}
 use Rattle.figures.specs.Codes.{SameButText}
-use Rattle.rows.specs.Row.{Content}
-use Rattle.rows.specs.Taken.{rowGiven}
 use Rattle.rows.proofs.Texts.{either, same-length, same-given}
 use Rattle.preview.specs.declared.Programme.{Programme}
 use Rattle.preview.specs.Page.{rowOf, tooHigh, Answers}

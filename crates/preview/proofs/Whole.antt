@@ -1,13 +1,13 @@
 -- What is held of a whole page, and what it answers.
-use Prim.Native.Nat.{ℕ, zero, suc, _+_, _*_, min, _≤_, _<_}
+use Prim.Native.Nat.{ℕ, zero, suc, _+_, _*_, min, _≤_}
 use mathlib.Core.Path.{_≡_, refl, sym, ap, subst, _∙_}
-use mathlib.Core.Bool.{Bool, true, false, cond, not, _&&_, _||_, true≢false}
-use mathlib.Core.List.{List, [], _∷_, _++_, append-nil}
+use mathlib.Core.Bool.{Bool, true, false, not, _||_}
+use mathlib.Core.List.{List, [], _∷_, _++_}
 use native.Mathlib.Omega.{arith}
 use borrow.Author.Tests.{eqb-true, eqb-false, eq-eqb, ne-eqb, not-false}
-use lib.Dec.{ltb, eqb}
-use lib.ListN.{length, getD, take, drop, replicate, length-append, length-take, length-replicate}
-use lib.Seq.{take-add, take-all, take-append-seam, take-append-le}
+use lib.Dec.{eqb}
+use lib.ListN.{length, take}
+use lib.Seq.{take-add, take-all}
 use Rattle.answer.specs.Answer.{Answer, refused, given, number, after}
 use Rattle.answer.specs.Lists.{some, filled}
 use Rattle.answer.proofs.Cases.{by-test, both-true, both-false}
@@ -27,8 +27,8 @@ use Rattle.preview.specs.declared.Programme.{Programme}
 use Rattle.preview.specs.declared.Reading.{Reading}
 use Rattle.preview.specs.declared.Verdict.{Verdict}
 use Rattle.preview.specs.Page.{rowOf, tooHigh, allPermitted, programmesBy, agrees, Answers}
-use Rattle.preview.specs.Taken.{givenTo, announcedIn, originalsIn, readable, answerOf, blank, pageOf, readNumber, ReadAs}
-use Rattle.preview.specs.Rows.{takenFrom, rowTaken, mayRead, pageBy}
+use Rattle.preview.specs.Taken.{givenTo, announcedIn, originalsIn, readable, answerOf, pageOf, readNumber, ReadAs}
+use Rattle.preview.specs.Rows.{rowTaken, mayRead, pageBy}
 use Rattle.preview.proofs.Readings.{rows-contain, whole, answered}
 use Rattle.preview.proofs.Most.{marked-titles, announced-titled, rows-titled}
 use Rattle.preview.proofs.Along.{isHigh, tableOf, row-taken, start-is, words-agree}

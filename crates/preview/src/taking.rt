@@ -1,5 +1,5 @@
 // A row taken one code at a time, and whether what was taken reads as programmes.
-ghost use Prim.Native.Nat.{_<_, _≤_};
+ghost use Prim.Native.Nat.{_<_};
 ghost use mathlib.Core.Path.{_≡_};
 ghost use lib.ListN.{length, drop};
 ghost use Rattle.rows.specs.Title.{beginsPair};

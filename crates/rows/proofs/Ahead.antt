@@ -1,6 +1,6 @@
 -- What a row contains, as it is found by looking ahead from each code.
 use Prim.Native.Nat.{ℕ, suc, _+_}
-use mathlib.Core.Bool.{Bool, true, false, cond, not, _&&_, _||_}
+use mathlib.Core.Bool.{Bool, true, false, cond, not, _&&_}
 use mathlib.Core.List.{List, [], _∷_}
 use Rattle.figures.specs.declared.Colour.{Colour}
 use Rattle.figures.specs.Codes.{colourBy}

@@ -1,25 +1,23 @@
 -- What is found by looking ahead from each code is what a row contains, and nothing else.
-use Prim.Native.Nat.{ℕ, suc, _+_, _≤_}
+use Prim.Native.Nat.{ℕ, suc, _≤_}
 use mathlib.Core.Path.{_≡_, refl, sym, ap, _∙_}
-use mathlib.Core.Bool.{Bool, true, false, cond, not, _&&_, _||_, true≢false, or-true, and-false}
+use mathlib.Core.Bool.{Bool, true, false, not, _&&_, true≢false, or-true}
 use mathlib.Core.List.{List, [], _∷_}
 use native.Mathlib.Omega.{arith}
 use borrow.Author.Tests.{leb-true, eqb-true, eq-eqb, lt-leb, not-true}
 use lib.Dec.{leb, eqb}
-use lib.ListN.{length, getD, drop}
+use lib.ListN.{length}
 use Rattle.answer.specs.Lists.{some}
 use Rattle.answer.proofs.Cases.{by-test, both-true, both-false, either-true}
 use Rattle.figures.specs.declared.Colour.{Colour}
 use Rattle.figures.specs.declared.Kind.{Kind}
-use Rattle.figures.specs.declared.Kind.the-variants as kind
-use Rattle.figures.specs.Codes.{isColour, isMagenta, isConceal, isMark, isPair, colourBy}
+use Rattle.figures.specs.Codes.{isColour, isMagenta, isConceal, isMark, colourBy}
 use Rattle.figures.specs.Formats.{startOf, pattern, figuresBy, Stands}
-use Rattle.figures.specs.Taken.{isText, kindIn}
+use Rattle.figures.specs.Taken.{isText}
 use Rattle.figures.proofs.Standing.{until, kindAt, stands-kind, kind-stands, text-none, empty-text}
-use Rattle.rows.specs.declared.Reading.{Reading}
-use Rattle.rows.specs.declared.Reading.the-variants.{Nothing, Opened, Empty, Filled, Done}
+use Rattle.rows.specs.declared.Reading.the-variants.{Opened, Empty, Filled}
 use Rattle.rows.specs.Title.{isPlain, isOpening, beginsWith, beginsPair, textOf, isForbidden, NoFormat, NoFormats, Title}
-use Rattle.rows.specs.Row.{Content, format, title, Contains, end, figures, titled, text}
+use Rattle.rows.specs.Row.{Content, Contains, end, figures, titled, text}
 use Rattle.rows.proofs.Ahead.{ends, titleAt, contents}
 
 -- ── formats ────────────────────────────────────────────────────────────────────────────────────────────────────────

@@ -9,13 +9,12 @@ use borrow.Author.Tests.{leb-true, leb-false, ltb-true, le-leb, lt-leb, lt-ltb}
 use lib.Dec.{leb, ltb}
 use lib.ListN.{length, take, set, length-append, length-set}
 use lib.Seq.{length-take-le, take-suc-set}
-use Rattle.answer.proofs.Cases.{by-test, both-true, both-false}
+use Rattle.answer.proofs.Cases.{by-test, both-true}
 use Rattle.figures.specs.declared.Colour.{Colour}
 use Rattle.figures.specs.declared.Colour.the-variants as colour
-use Rattle.figures.specs.declared.Kind.{Kind}
 use Rattle.figures.specs.declared.Kind.the-variants as kind
 use Rattle.figures.specs.declared.Start.{Start}
-use Rattle.figures.specs.Codes.{isMark, isPair, colourBy}
+use Rattle.figures.specs.Codes.{isMark, colourBy}
 use Rattle.figures.specs.Formats.{startOf, pattern, figuresBy}
 use Rattle.figures.specs.Taken.{isText, ownCodes, kindIn, kindFrom}
 use Rattle.figures.proofs.Standing.{until, kindAt, fits-length, kind-fits, many-text, no-start, nothing-text}
@@ -24,7 +23,7 @@ use Rattle.rows.specs.declared.Reading.the-variants.{Nothing, Opened, Em
 use Rattle.rows.specs.declared.Row.{Row}
 use Rattle.rows.specs.Title.{isOpening, isForbidden, beginsPair}
 use Rattle.rows.specs.Row.{Content, format, title}
-use Rattle.rows.specs.Taken.{kindHere, isFilled, titleHere, advanced, begun, isDone, kept, titledBy, titleNext, columnNext, countAfter, rowNext, rowAfter, rowStart, givenHere, givenFrom, rowGiven}
+use Rattle.rows.specs.Taken.{kindHere, isFilled, titleHere, advanced, begun, isDone, kept, titleNext, columnNext, countAfter, rowNext, rowAfter, rowStart, givenHere, givenFrom, rowGiven}
 use Rattle.rows.proofs.Ahead.{ends, titleAt, contents}
 
 -- ── the codes since a mark ─────────────────────────────────────────────────────────────────────────────────────────

@@ -1,12 +1,11 @@
 -- Characters without effect change nothing of what a row contains.
-use Prim.Native.Nat.{ℕ, suc, _+_, _<_}
+use Prim.Native.Nat.{ℕ, suc}
 use mathlib.Core.Path.{_≡_, refl, sym, ap, _∙_}
-use mathlib.Core.Bool.{Bool, true, false, cond, not, _&&_, _||_, true≢false}
+use mathlib.Core.Bool.{Bool, true, false, _||_, true≢false}
 use mathlib.Core.List.{List, [], _∷_}
 use mathlib.Core.Logic.{_⊎_, inl, inr}
-use native.Mathlib.Omega.{arith}
-use borrow.Author.Tests.{eqb-true, ne-eqb}
-use lib.Dec.{leb, ltb, eqb}
+use borrow.Author.Tests.{ne-eqb}
+use lib.Dec.{ltb, eqb}
 use lib.ListN.{length}
 use Rattle.answer.proofs.Cases.{by-test, both-true, both-false}
 use Rattle.figures.specs.declared.Colour.{Colour}
@@ -15,17 +14,14 @@ use Rattle.figures.specs.declared.Start.{Start}
 use Rattle.figures.specs.declared.Start.the-variants as start
 use Rattle.figures.specs.declared.Sign.{Sign}
 use Rattle.figures.specs.declared.Sign.the-variants.{Decimal, Hexadecimal, Point, Hyphen, PlusMinus, LetterF}
-use Rattle.figures.specs.declared.Kind.{Kind}
-use Rattle.figures.specs.declared.Kind.the-variants as kind
 use Rattle.figures.specs.Codes.{isColour, isMagenta, isConceal, isDecimal, isLetter, isHexadecimal, point, hyphen, isGraphics, isMark, isPair, hasEffect, SameButText, colourBy}
-use Rattle.figures.specs.Formats.{startOf, pattern, shows, fits, figuresBy}
+use Rattle.figures.specs.Formats.{startOf, pattern, shows, fits}
 use Rattle.figures.specs.Permitted.{at}
 use Rattle.figures.specs.Taken.{isText, kindBy, kindIn}
 use Rattle.figures.proofs.Standing.{until, kindAt, kind-fits, no-start, nothing-text}
 use Rattle.rows.specs.declared.Reading.{Reading}
-use Rattle.rows.specs.Title.{isOpening, isForbidden, beginsPair}
-use Rattle.rows.specs.Row.{Content, format, title}
-use Rattle.rows.specs.Taken.{isFilled, advanced, rowGiven}
+use Rattle.rows.specs.Title.{isForbidden, beginsPair}
+use Rattle.rows.specs.Taken.{advanced, rowGiven}
 use Rattle.rows.proofs.Ahead.{ends, titleAt, contents}
 use Rattle.rows.proofs.Given.{no-pair, row-given}
 

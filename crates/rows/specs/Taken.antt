@@ -1,12 +1,10 @@
 -- A row taken one code at a time, with `<` as a forty-first. What it contains is said in Row.antt; the laws say that this is the same.
-use Prim.Native.Nat.{ℕ, zero, suc, _+_}
+use Prim.Native.Nat.{ℕ, suc, _+_}
 use mathlib.Core.Bool.{Bool, true, false, cond, not, _&&_, _||_}
 use mathlib.Core.List.{List, [], _∷_, _++_}
 use lib.Dec.{ltb}
 use lib.ListN.{set, replicate}
-use Rattle.figures.specs.declared.Colour.{Colour}
 use Rattle.figures.specs.declared.Colour.the-variants as colour
-use Rattle.figures.specs.declared.Start.{Start}
 use Rattle.figures.specs.declared.Start.the-variants as start
 use Rattle.figures.specs.declared.Kind.{Kind}
 use Rattle.figures.specs.declared.Kind.the-variants as kind

@@ -1,5 +1,5 @@
 // A row of a preview page, taken one code at a time: the formats and the title that it contains.
-ghost use mathlib.Core.Bool.{true, not, _&&_};
+ghost use mathlib.Core.Bool.{true};
 ghost use mathlib.Core.Path.{_≡_};
 ghost use lib.ListN.{set};
 ghost use Rattle.rows.specs.Laws.{Laws};

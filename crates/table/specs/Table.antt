@@ -1,7 +1,7 @@
 -- The table that the contents of a page are entered into (EN 300 231 clause 7.3.1.5; document 02, #108), as the reader keeps it.
 use Prim.Native.Nat.{ℕ, suc, _+_, _%_}
-use mathlib.Core.Bool.{Bool, true, false, cond, not, _&&_, _||_}
-use mathlib.Core.List.{List, [], _∷_, _++_}
+use mathlib.Core.Bool.{Bool, true, false, cond, _||_}
+use mathlib.Core.List.{List, [], _∷_}
 use lib.Dec.{ltb, eqb}
 use lib.ListN.{set, replicate}
 use Rattle.figures.specs.declared.Offset.the-variants.{Plus}
@@ -18,7 +18,7 @@ use Rattle.announced.specs.Taken.{afterTitle, byTitle, stageFrom, announcedFrom
 use Rattle.originals.specs.declared.Original.{Original}
 use Rattle.originals.specs.declared.Given.{Given}
 use Rattle.originals.specs.declared.Given.the-variants as given
-use Rattle.originals.specs.Data.{nothing, originalBy, dataOf}
+use Rattle.originals.specs.Data.{dataOf}
 use Rattle.originals.specs.Taken.{dataStart, dataFrom, originalsFrom, givenOf}
 use Rattle.table.specs.declared.Words.{Words}
 use Rattle.table.specs.declared.Words.the-variants.{Nothing, Same, Different}

@@ -4,7 +4,7 @@ ghost use mathlib.Core.Bool.{true};
 ghost use mathlib.Core.Path.{_≡_};
 ghost use lib.ListN.{set};
 ghost use Rattle.figures.specs.Permitted.{wordsOf};
-ghost use Rattle.table.specs.Table.{oneMore, noAnnouncement, noAnnouncements, withTold, noOriginal, noOriginals, withGiven, wordAfter, wordsAfter, agreed, isWrong, tableStart, afterFormat, titledAt, withCode};
+ghost use Rattle.table.specs.Table.{oneMore, noAnnouncement, withTold, noOriginal, withGiven, wordAfter, wordsAfter, agreed, isWrong, tableStart, afterFormat, titledAt, withCode};
 ghost use Rattle.table.specs.Laws.{Laws};
 use announced::Announcement;
 use announced::Stage;

@@ -1,8 +1,9 @@
 -- A title is given out where one ends, else a format where one does, else nothing.
 use borrow.Author.Needs.{needs}
 use Prim.Native.Nat.{_+_}
-use mathlib.Core.Path.{_≡_, refl}
+use mathlib.Core.Path.{_≡_, refl, ap, _∙_}
 use native.Mathlib.Omega.{arith}
+use Rattle.table.specs.Table.{titledAt}
 use Rattle.preview.specs.Rows.{withGivenOut}
 use Rattle.preview.proofs.taking.given_out.Statement.{statement}
 use Rattle.preview.proofs.taking.given_out.Tie as tie
@@ -10,9 +11,10 @@ use Rattle.preview.proofs.taking.given_out.Tie as tie
 returns : tie.Need-returns
 unfolding withGivenOut
 returns c =
-    let column = c .before .before .args .column in
-    let behind : column + 2 ≡ 2 + column = omega arith in
-    rw (c .titled .ensures, c .before .if1 .taken, behind) refl
+    let a = c .before .before .args in
+    let behind : a .column + 2 ≡ 2 + a .column = omega arith in
+    let given : c .titled .result ≡ titledAt (a .t) (a .row) (2 + a .column) = c .titled .ensures ∙ ap (titledAt (a .t) (a .row)) behind in
+    rw (given, c .before .if1 .taken) refl
 
 returns-2 : tie.Need-returns-2
 unfolding withGivenOut
