@@ -3,6 +3,7 @@ use crate::command::{compiled, printed, run};
 use independent::paper::{Label, Nibble, Reading};
 
 pub mod pages;
+pub mod previews;
 
 fn ask(call: &str, questions: &[u8]) -> Vec<u8> {
     printed(&run(&[compiled("answers"), String::from(call)]), questions)

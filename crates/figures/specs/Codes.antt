@@ -73,11 +73,6 @@ SameButText (c ∷ cs) [] = ⊥
 SameButText (c ∷ cs) (d ∷ ds) = ((c ≡ d) ⊎ ((hasEffect c ≡ false) × (hasEffect d ≡ false))) × SameButText cs ds
 
 -- ── R3: the colour in force ────────────────────────────────────────────────────────────────────────────────────────
--- 'set by the last code before that column that is a `+` (plain), `:` (magenta) or graphics code (graphics)'
+-- 'plain at the row's start; then set by the last code before that column that is a `+` (plain), `:` (magenta) or graphics code (graphics)'
 unfoldable pub colourBy : Colour → ℕ → Colour
 colourBy k c = cond (isColour c) Plain (cond (isMagenta c) Magenta (cond (isGraphics c) Graphics k))
-
--- the colour in force after some codes; 'plain at the row's start'
-abbrev pub colourAfter : Colour → List ℕ → Colour
-colourAfter k [] = k
-colourAfter k (c ∷ cs) = colourAfter (colourBy k c) cs

@@ -6,6 +6,7 @@ use Rattle.hamming.specs.Byte.{nibbleOf, codingOf}
 use Rattle.label.specs.Pil.{serviceOf}
 use Rattle.fields.specs.Fields.{plain, pageInto, pageFrom, packetsTold, bytesLeft, pilFrom}
 use Rattle.fields.proofs.Proved.{left, one-left}
+use Rattle.viewed.proofs.Proved.{read-once}
 use Rattle.triplet.specs.Word.{wordOf, tripletOf}
 use Rattle.triplet.specs.Word as word
 use Rattle.probe.specs.Plain.{nibbleNumber, byteOr, readInto, writeFrom, serviceNumber, windowOr, tripletNumber}
@@ -24,4 +25,5 @@ laws = record {
   page-read-unique = λ p out. left (number (pageInto p out)) (after out (pageInto p out)) p;
   page-write-unique = λ f buf. left (plain 256 (packetsTold (pageFrom f buf))) (after buf (bytesLeft (pageFrom f buf))) f;
   pil-unique = λ f. one-left (plain 16777216 (pilFrom f)) f;
+  preview-unique = read-once;
 }

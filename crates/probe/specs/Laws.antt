@@ -8,6 +8,7 @@ use Rattle.hamming.specs.Byte.{nibbleOf, codingOf}
 use Rattle.label.specs.Pil.{serviceOf}
 use Rattle.fields.specs.Fields.{plain, pageInto, pageFrom, packetsTold, bytesLeft, pilFrom}
 use Rattle.fields.specs.Laws.{Left}
+use Rattle.viewed.specs.Viewed.{ReadInto}
 use Rattle.triplet.specs.Word.{wordOf, tripletOf}
 use Rattle.triplet.specs.Word as word
 use Rattle.probe.specs.Plain.{nibbleNumber, byteOr, readInto, writeFrom, serviceNumber, windowOr, tripletNumber}
@@ -28,3 +29,4 @@ pub record Laws : Type 0 where
   pub page-write-unique : (f buf : List ℕ) → Unique {A = Left} (λ o.
       (o .0 ≡ plain 256 (packetsTold (pageFrom f buf))) × ((o .1 .0 ≡ after buf (bytesLeft (pageFrom f buf))) × (o .1 .1 ≡ f)))
   pub pil-unique : (f : List ℕ) → Unique {A = ℕ × List ℕ} (λ o. (o .0 ≡ plain 16777216 (pilFrom f)) × (o .1 ≡ f))
+  pub preview-unique : (p out : List ℕ) → Unique {A = Left} (λ o. ReadInto p out (o .0) (o .1 .0) × (o .1 .1 ≡ p))

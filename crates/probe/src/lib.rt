@@ -8,6 +8,7 @@ ghost use Rattle.calendar.specs.Calendar.{windowIn};
 ghost use Rattle.triplet.specs.Word.{wordOf, tripletOf};
 ghost use Rattle.triplet.specs.Word as word;
 ghost use Rattle.fields.specs.Fields.{plain, pageInto, pageFrom, packetsTold, bytesLeft, pilFrom};
+ghost use Rattle.viewed.specs.Viewed.{ReadInto};
 ghost use lib.ListN.{length};
 ghost use Rattle.probe.specs.Laws.{Laws};
 ghost use Rattle.probe.specs.Plain.{nibbleNumber, byteOr, receivedBytes, labelOf, readInto, writeFrom, serviceNumber, windowOr};
@@ -198,6 +199,14 @@ pub extern "C" fn probe_pil(fields: &[u8]) -> u32
     ensures { λ r. ⌜ now (fields .exit) ≡ now (fields .entry) ⌝ }
 {
     fields::pil_from(fields)
+}
+
+#[no_mangle]
+pub extern "C" fn probe_preview(page: &[u8], out: &mut [u8]) -> u8
+    ensures { λ r. ⌜ ReadInto (now (page .entry)) (now (out .entry)) r (now (out .exit)) ⌝ }
+    ensures { λ r. ⌜ now (page .exit) ≡ now (page .entry) ⌝ }
+{
+    viewed::read_into(page, out)
 }
 
 // The laws of these calls, as a promise of the crate.

@@ -15,6 +15,7 @@ extern "C" {
     fn probe_page_read(page: *const u8, length: usize, out: *mut u8, room: usize) -> u8;
     fn probe_page_write(fields: *const u8, count: usize, buf: *mut u8, length: usize) -> u16;
     fn probe_pil(fields: *const u8, count: usize) -> u32;
+    fn probe_preview(page: *const u8, length: usize, out: *mut u8, room: usize) -> u8;
 }
 
 type Lending<R> = unsafe extern "C" fn(*const u8, usize, *mut u8, usize) -> R;
@@ -71,6 +72,7 @@ fn answer(call: &str, questions: &mut Questions, answers: &mut Vec<u8>) {
                 let fields = questions.lent();
                 answers.extend(probe_pil(fields.as_ptr(), fields.len()).to_be_bytes());
             }
+            "preview" => lend(probe_preview, u8::to_be_bytes, questions, answers),
             _ => panic!("no call {call}"),
         }
     }

@@ -1,0 +1,4 @@
+pub mod Back
+pub mod Through
+pub mod Stored
+pub mod Proved
