@@ -1,19 +1,22 @@
 //! The compiled programs that read a sheet, or a page: what they are given, and what they print.
 use crate::command::{built, compiled, ended, run, Ended, WHOLE};
-use independent::{aerial, preselection, sheet};
+use independent::{aerial, preselection, preview, sheet};
 
 #[derive(Clone, Copy)]
 pub struct Program {
     pub name: &'static str,
+    /// What runs it in the repository.
+    pub script: &'static str,
     /// One of the stored sheets, or pages.
     pub example: &'static str,
     /// What the independent side prints for a sheet, or a page.
     pub expected: fn(&[u8]) -> String,
 }
 
-pub const PLAY: Program = Program { name: "play", example: "sheets/whole_case.sheet", expected: sheet::play };
-pub const AERIAL: Program = Program { name: "aerial", example: "sheets/whole_case.sheet", expected: aerial::print };
-pub const PAGES: Program = Program { name: "pages", example: "pages.d/an_evening.page", expected: preselection::print };
+pub const PLAY: Program = Program { name: "play", script: "./play", example: "sheets/whole_case.sheet", expected: sheet::play };
+pub const AERIAL: Program = Program { name: "aerial", script: "./aerial", example: "sheets/whole_case.sheet", expected: aerial::print };
+pub const PAGES: Program = Program { name: "pages", script: "./pages", example: "pages.d/an_evening.page", expected: preselection::print };
+pub const PREVIEW: Program = Program { name: "guide", script: "./preview", example: "preview.d/smallest.page", expected: preview::print };
 
 /// A sheet or a page, and how it is read.
 #[derive(Clone)]

@@ -1,13 +1,13 @@
 //! The programs come to an end whatever they read, and tell what they could not read or write.
 use against_the_world::command::{ended, file, WHOLE};
-use against_the_world::program::{Given, Program, AERIAL, PAGES, PLAY};
+use against_the_world::program::{Given, Program, AERIAL, PAGES, PLAY, PREVIEW};
 use std::fs;
 use std::sync::Mutex;
 
 /// The longest sheet, and one byte that is left over.
 const DECIDING: usize = 1 + 255 * 9 + 2 + 65_535 * 47 + 1;
 
-const PROGRAMS: [Program; 3] = [PLAY, AERIAL, PAGES];
+const PROGRAMS: [Program; 4] = [PLAY, AERIAL, PAGES, PREVIEW];
 
 /// What a program says of input and of output.
 fn input(program: Program, why: &str) -> String {
@@ -23,21 +23,21 @@ fn example(program: Program) -> Vec<u8> {
 }
 
 /// What is told of input whose end was not seen: a sheet as far as it came, and then as short input. Of a page nothing, since it would be
-/// another page where it is cut after a packet.
+/// another page where it is cut after a packet, and more may follow a whole one.
 fn unseen(program: Program, came: &[u8]) -> String {
-    if program.name == PAGES.name {
+    if [PAGES.name, PREVIEW.name].contains(&program.name) {
         return String::new();
     }
     (program.expected)(came).replace('Z', "X")
 }
 
-/// `./play`, `./aerial` or `./pages` is run once at a time: each run looks first whether its program is built.
+/// `./play`, `./aerial`, `./pages` or `./preview` is run once at a time: each run looks first whether its program is built.
 static ONE: Mutex<()> = Mutex::new(());
 
 /// A line of shell in the repository, with `./it` for the program, ends within a minute, with this status, and prints and says this.
 fn ends(program: Program, line: &str, status: i32, printed: &str, said: &str) {
     let _held = ONE.lock().unwrap_or_else(|held| held.into_inner());
-    let line = line.replace("./it", &format!("timeout 60 ./{}", program.name));
+    let line = line.replace("./it", &format!("timeout 60 {}", program.script));
     let script = format!("cd \"$1\" && {line}");
     let words = ["sh", "-c", &script, "sh", &file("").display().to_string()].map(String::from);
     let end = ended(&words, &[], WHOLE);
@@ -51,6 +51,7 @@ fn zeros_without_end() {
     ends(PLAY, "./it </dev/zero", 0, "X 0\n", "");
     ends(AERIAL, "./it </dev/zero", 0, "X\n", "");
     ends(PAGES, "./it </dev/zero", 0, "R 21\n", "");
+    ends(PREVIEW, "./it </dev/zero", 0, "R 23\n", "");
 }
 
 #[test]
@@ -70,13 +71,16 @@ fn packets_of_zeros_without_end() {
     assert_eq!((AERIAL.expected)(&sheet), "A 0 0 0 0 65535\nX\n");
 }
 
-/// A page is decided by its seventeenth packet: zeros behind its first are damaged, and another first is out of turn.
+/// A page is decided by its seventeenth packet: zeros behind its first are damaged, and another first is out of turn. A preview page is
+/// decided by the byte that is one too many.
 #[test]
 fn pages_without_end() {
     let line = format!("{{ cat {}; cat /dev/zero; }} | ./it", PAGES.example);
     ends(PAGES, &line, 0, "R 21\n", "");
     let line = format!("while cat {}; do :; done 2>/dev/null | ./it", PAGES.example);
     ends(PAGES, &line, 0, "R 18\n", "");
+    let line = format!("{{ cat {}; cat /dev/zero; }} | ./it", PREVIEW.example);
+    ends(PREVIEW, &line, 0, "R 23\n", "");
 }
 
 #[test]
