@@ -1,5 +1,5 @@
 -- A timer of a programme that a page gives.
-use Prim.Native.Nat.{ℕ, _<_, _≤_}
+use Prim.Native.Nat.{ℕ, _^_, _<_, _≤_}
 use mathlib.Core.Path.{_≡_, refl}
 use mathlib.Core.Bool.{Bool, true, false, cond, _||_}
 use mathlib.Core.List.{List}
@@ -88,3 +88,9 @@ module _ (page : List ℕ) (qs : List Programme) (q : Programme) (b : Booked) (w
 
   pub length-below : b .length < 1440
   length-below = rw (timed q b e .1) (length-short (q .start) (q .finish) (good .start) (good .finish))
+
+  pub cni-below : b .cni < 65536
+  cni-below = rw (timed q b e .1) (good .network)
+
+  pub pil-below : b .pil < 2 ^ 20
+  pil-below = rw (timed q b e .1) (had-given .parts .narrow)

@@ -1,20 +1,20 @@
--- The figures of a date: its year has two decimal figures.
+-- The figures of a date, whose year has two decimal ones, and of a network, whose country has two hexadecimal ones.
 use Prim.Native.Nat.{ℕ, zero, suc, _≤_}
 use mathlib.Core.Path.{_≡_}
-use mathlib.Core.Bool.{true}
+use mathlib.Core.Bool.{Bool, true, false, cond}
 use mathlib.Core.List.{List, [], _∷_}
 use native.Mathlib.Omega.{arith}
 use borrow.Author.Tests.{leb-true}
 use lib.Dec.{leb}
-use Rattle.answer.proofs.Cases.{both-true}
+use Rattle.answer.proofs.Cases.{both-true, by-test}
 use Rattle.figures.specs.declared.Colour.{Colour}
 use Rattle.figures.specs.declared.Sign.{Sign}
 use Rattle.figures.specs.declared.Sign.the-variants.{Decimal}
 use Rattle.figures.specs.declared.Kind.{Kind}
 use Rattle.figures.specs.declared.Kind.the-variants as kind
-use Rattle.figures.specs.Codes.{isDecimal, figure}
-use Rattle.figures.specs.Formats.{fits, figuresBy, Stands}
-use Rattle.figures.specs.Permitted.{at, two}
+use Rattle.figures.specs.Codes.{isDecimal, isLetter, figure}
+use Rattle.figures.specs.Formats.{pattern, isFigure, fits, figuresBy, Stands}
+use Rattle.figures.specs.Permitted.{at, two, twoHexadecimal}
 
 abbrev decimals : ℕ → List Sign
 decimals zero = []
@@ -39,3 +39,26 @@ year-small a fs w e =
     let shown : fits (decimals 6) text ≡ true = rw e at (w .shown) in
     let given : fs ≡ figuresBy (decimals 6) text = rw e at (w .given) in
     rw given (omega (arith, small 6 text 4 shown, small 6 text 5 shown))
+
+-- no figure is above F
+figure-below : (c : ℕ) → figure c ≤ 15
+figure-below c =
+    by-test (isDecimal c)
+    (λ e. omega (arith, figure-small c e))
+    (λ e. rw e (by-test (isLetter c)
+    (λ f. rw f (omega (arith, leb-true c 70 (both-true (leb 65 c) (leb c 70) f .1))))
+    (λ f. rw f (omega arith))))
+
+below-by : (t : Bool) (c : ℕ) (fs : List ℕ) (i : ℕ) → ((j : ℕ) → at fs j ≤ 15) → at (cond t (figure c ∷ fs) fs) i ≤ 15
+below-by true c fs zero h = figure-below c
+below-by true c fs (suc i) h = h i
+below-by false c fs i h = h i
+
+below : (signs : List Sign) (cs : List ℕ) (i : ℕ) → at (figuresBy signs cs) i ≤ 15
+below [] cs i = omega arith
+below (s ∷ signs) [] i = omega arith
+below (s ∷ signs) (c ∷ cs) i = below-by (isFigure s) c (figuresBy signs cs) i (λ j. below signs cs j)
+
+-- 'hh'
+pub country-small : {k : Colour} {codes : List ℕ} (a : Kind) (fs : List ℕ) → Stands k codes a fs → twoHexadecimal fs 0 ≤ 255
+country-small a fs w = rw (w .given) (omega (arith, below (pattern a) (w .text) 0, below (pattern a) (w .text) 1))

@@ -1,5 +1,5 @@
 -- What is claimed of a programme's timer. Proved in proofs/Proved.antt.
-use Prim.Native.Nat.{ℕ, _<_}
+use Prim.Native.Nat.{ℕ, _^_, _<_}
 use mathlib.Core.Path.{_≡_}
 use mathlib.Core.List.{List, _∷_}
 use Rattle.answer.specs.Answer.{given, Unique}
@@ -25,7 +25,11 @@ pub record Laws : Type 0 where
   -- its PIL is the programme's date and original time
   pub parts : (page : List ℕ) (qs : List Programme) (q : Programme) (b : Booked) → Answers page (given qs) → Member q qs → timerOf q ≡ Timed b →
       partsOf (b .pil) ≡ record { day = q .day; month = q .month; hour = q .original .hour; minute = q .original .minute }
-  -- its length is less than a day
+  -- its CNI has 16 bits, its PIL 20, and its length is less than a day
+  pub cni-below : (page : List ℕ) (qs : List Programme) (q : Programme) (b : Booked) → Answers page (given qs) → Member q qs → timerOf q ≡ Timed b →
+      b .cni < 2 ^ 16
+  pub pil-below : (page : List ℕ) (qs : List Programme) (q : Programme) (b : Booked) → Answers page (given qs) → Member q qs → timerOf q ≡ Timed b →
+      b .pil < 2 ^ 20
   pub length-below : (page : List ℕ) (qs : List Programme) (q : Programme) (b : Booked) → Answers page (given qs) → Member q qs → timerOf q ≡ Timed b →
       b .length < 1440
   -- the call's promise allows one outcome

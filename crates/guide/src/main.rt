@@ -3,15 +3,16 @@ ghost use Prim.Native.Nat.{_+_, _≤_, min};
 ghost use mathlib.Core.Path.{_≡_};
 ghost use lib.ListN.{length};
 ghost use lib.Seq.{sets};
-ghost use Rattle.view.specs.Pieces.{deciding, endTold, longest};
-use view::Collected;
+ghost use Rattle.collected.specs.Collected.{deciding};
+ghost use Rattle.view.specs.Reported.{endTold, longest};
+use collected::Collected;
 
 // What finds room is stored whole.
 fn reported(page: Collected, out: &mut [u8]) -> usize
     requires { ⌜ longest ≤ length (now out) ⌝ }
     ensures { λ r. ⌜ (r ≡ length (endTold page)) × (now (out .exit) ≡ sets (now (out .entry)) 0 (endTold page)) ⌝ }
 {
-    page.report(out)
+    view::report(page, out)
 }
 
 struct Turn {

@@ -1,44 +1,34 @@
 -- A page as the reader gives it prints what its answer by the grammar does.
 use Prim.Native.Nat.{ℕ, _≤_}
 use mathlib.Core.Path.{_≡_, refl, sym, ap, _∙_}
-use mathlib.Core.Bool.{false}
-use mathlib.Core.List.{List, [], _++_}
+use mathlib.Core.List.{List, []}
 use native.Mathlib.Omega.{arith}
-use lib.Dec.{eqb}
-use lib.ListN.{length, take, replicate, length-append}
-use lib.Seq.{take-take, take-append-seam}
+use lib.ListN.{length, length-append}
 use Rattle.answer.specs.Answer.{Answer, refused, given, number, after, Unique}
+use Rattle.answer.specs.Lists.{joined}
 use Rattle.preview.specs.declared.Programme.{Programme}
 use Rattle.preview.specs.declared.Reading.{Reading}
-use Rattle.preview.specs.Page.{Answers, wrong-length, no-reading, wrong-word, read}
-use Rattle.preview.specs.Taken.{answerOf, blank, pageOf, readNumber, ReadAs}
+use Rattle.preview.specs.Page.{Answers}
+use Rattle.preview.specs.Taken.{answerOf, pageOf, readNumber, ReadAs}
 use Rattle.preview.proofs.Readings.{answer-is, answered}
 use Rattle.preview.proofs.Proved as preview
-use Rattle.table.specs.Table.{most}
-use Rattle.view.specs.declared.Collected.{Collected}
+use Rattle.collected.specs.declared.Collected.{Collected}
+use Rattle.collected.specs.Collected.{blank as nothing, held}
+use Rattle.collected.specs.Laws.{afterPieces}
+use Rattle.collected.proofs.Readings.{Sound, sound, first-places}
+use Rattle.collected.proofs.Proved as collected
 use Rattle.view.specs.View.{programmeLines, countLine, viewed, viewOf}
-use Rattle.view.specs.Pieces.{held, longest, reportedBy, outAfter, ReportedAs, readLines}
+use Rattle.view.specs.Reported.{endTold, longest, reportedBy, outAfter, ReportedAs, readLines}
 use Rattle.view.proofs.Rooms.{lines-short, count-short, refusal-short}
 
 pub told : (p : List ℕ) (a : Answer (List Programme)) → Answers p a → viewOf p ≡ viewed a
 unfolding viewOf
 told p a w = ap (λ x. viewed x) (sym (answer-is p a w))
 
--- a refusal has a number, and a page at most 24 programmes
-abbrev Sound : Answer (List Programme) → Type 0
-Sound (refused n) = eqb n 0 ≡ false
-Sound (given qs) = length qs ≤ most
-
-sound : (p : List ℕ) (a : Answer (List Programme)) → Answers p a → Sound a
-sound p a (wrong-length h) = refl
-sound p a (no-reading l h) = refl
-sound p a (wrong-word r l w e) = refl
-sound p a (read r l w e) = preview.laws .at-most-24 p _ (read r l w e)
-
--- the programmes of a page stand at its first places
-first-places : (qs : List Programme) → length qs ≤ most → take (pageOf qs .count) (pageOf qs .programmes) ≡ qs
-unfolding pageOf
-first-places qs h = take-take (length qs) most (qs ++ replicate most blank) h ∙ take-append-seam qs (replicate most blank)
+-- what is held is answered as all that arrived
+pub pieces : (ps : List (List ℕ)) → endTold (afterPieces ps nothing) ≡ viewOf (joined ps)
+unfolding endTold viewOf
+pieces ps = ap (λ x. viewed x) (sym (answer-is _ (answerOf (joined ps)) (collected.laws .pieces ps _ (answered (joined ps)))))
 
 same-lines : (a : Answer (List Programme)) → Sound a → readLines (number a) (pageOf (after [] a)) ≡ viewed a
 unfolding readLines pageOf

@@ -12,7 +12,7 @@ use Rattle.announced.specs.declared.Time.{Time}
 use Rattle.preview.specs.declared.Programme.{Programme}
 use Rattle.view.specs.View.{colon, column, pair, timeColumn, networkColumn, offsetColumn, recordOf}
 use Rattle.view.specs.View.{beginning, middle, ending, programmeLine, programmeLines, countLine, refusalLine}
-use Rattle.view.specs.Pieces.{longestLine}
+use Rattle.view.specs.Reported.{longestLine}
 
 -- ── the columns ────────────────────────────────────────────────────────────────────────────────────────────────────
 pub column-short : (n : ℕ) → length (column n) ≤ 4

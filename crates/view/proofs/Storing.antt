@@ -13,7 +13,7 @@ use Rattle.preview.specs.declared.Programme.{Programme}
 use Rattle.preview.specs.Taken.{blank}
 use Rattle.table.specs.Table.{most}
 use Rattle.view.specs.View.{programmeLine, programmeLines}
-use Rattle.view.specs.Pieces.{longestLine}
+use Rattle.view.specs.Reported.{longestLine}
 use Rattle.view.proofs.Rooms.{lines-short}
 
 lines-more : (qs : List Programme) (q : Programme) → programmeLines (qs ++ (q ∷ [])) ≡ programmeLines qs ++ programmeLine q

@@ -1,3 +1,3 @@
 pub mod View
-pub mod Pieces
+pub mod Reported
 pub mod Laws

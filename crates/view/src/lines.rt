@@ -7,7 +7,7 @@ ghost use lib.ListN.{length};
 ghost use Rattle.answer.specs.Text.{space, lineFeed, decimalIn, Stored};
 ghost use Rattle.view.specs.View.{minus, column, pair, hourMinute, timeColumn, hexadecimal, networkColumn, offsetColumn, recordOf};
 ghost use Rattle.view.specs.View.{beginning, middle, ending, programmeLine, countLine, refusalLine};
-ghost use Rattle.view.specs.Pieces.{longestLine};
+ghost use Rattle.view.specs.Reported.{longestLine};
 use announced::Time;
 use answer::digit;
 use figures::Offset;

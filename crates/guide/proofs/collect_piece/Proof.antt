@@ -4,9 +4,9 @@ use Prim.Native.Nat.{_+_, min}
 use mathlib.Core.Path.{_≡_, ap, _∙_}
 use lib.ListN.{length, take}
 use lib.Seq.{length-take-le}
-use Rattle.view.specs.declared.Collected.{Collected}
-use Rattle.view.specs.Pieces.{deciding}
-use Rattle.view.proofs.Keeping.{length-more}
+use Rattle.collected.specs.declared.Collected.{Collected}
+use Rattle.collected.specs.Collected.{deciding}
+use Rattle.collected.proofs.Keeping.{length-more}
 use Rattle.guide.proofs.collect_piece.Statement.{statement}
 use Rattle.guide.proofs.collect_piece.Tie as tie
 

@@ -7,8 +7,8 @@ use mathlib.Core.Path.{_≡_, refl, sym, ap, _∙_}
 use native.Mathlib.Omega.{arith}
 use lib.Dec.{ltb, leb}
 use Rattle.answer.proofs.Cases.{both-true}
-use Rattle.view.specs.declared.Collected.{Collected}
-use Rattle.view.specs.Pieces.{deciding, blank}
+use Rattle.collected.specs.declared.Collected.{Collected}
+use Rattle.collected.specs.Collected.{deciding, blank}
 use Rattle.guide.proofs.main.Statement.{statement}
 use Rattle.guide.proofs.main.Tie as tie
 

@@ -5,7 +5,8 @@ use mathlib.Core.Path.{_≡_}
 use mathlib.Core.Bool.{true}
 use lib.Dec.{leb}
 use lib.ListN.{length}
-use Rattle.view.specs.Pieces.{held, endTold, longest, reportedBy, outAfter}
+use Rattle.collected.specs.Collected.{held}
+use Rattle.view.specs.Reported.{endTold, longest, reportedBy, outAfter}
 use Rattle.view.proofs.Readings.{told}
 use Rattle.guide.proofs.reported.Statement.{statement}
 use Rattle.guide.proofs.reported.Tie as tie

@@ -1,0 +1,4 @@
+pub mod Keeping
+pub mod Machine
+pub mod Readings
+pub mod Proved

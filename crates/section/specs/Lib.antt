@@ -1,0 +1,4 @@
+pub mod Section
+pub mod Asked
+pub mod Taken
+pub mod Laws
