@@ -1,5 +1,5 @@
-//! Only the programs that time bytes, packets and triplets link the archive of `rt staticlib probe` and libzvbi: the others build without
-//! them.
+//! Only the programs that time bytes, packets, triplets and preview pages link the archive of `rt staticlib probe`, and the first three
+//! libzvbi: the others build without them.
 use std::path::Path;
 
 fn main() {
@@ -7,8 +7,10 @@ fn main() {
     let probe = Path::new(&here).join("../target/staticlib/libprobe.a");
     println!("cargo:rerun-if-changed=build.rs");
     println!("cargo:rerun-if-changed={}", probe.display());
-    for bin in ["bytes", "packets", "triplets"] {
+    for bin in ["bytes", "packets", "triplets", "previews"] {
         println!("cargo:rustc-link-arg-bin={bin}={}", probe.display());
+    }
+    for bin in ["bytes", "packets", "triplets"] {
         println!("cargo:rustc-link-arg-bin={bin}=-lzvbi");
     }
 }

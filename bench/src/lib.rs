@@ -3,5 +3,6 @@
 pub mod calendar;
 pub mod desk;
 pub mod packet;
+pub mod previews;
 pub mod sheet;
 pub mod turns;
