@@ -6,9 +6,9 @@ use mathlib.Core.List.{List, [], _∷_, _++_}
 use native.Mathlib.Omega.{arith}
 use borrow.Author.Tests.{ltb-true}
 use Rattle.answer.proofs.Cases.{both-true}
+use Rattle.formats.specs.declared.Kind.{Kind}
+use Rattle.formats.specs.declared.Kind.the-variants as kind
 use Rattle.figures.specs.declared.Offset.{Offset}
-use Rattle.figures.specs.declared.Kind.{Kind}
-use Rattle.figures.specs.declared.Kind.the-variants as kind
 use Rattle.figures.specs.Permitted.{two, three, twoHexadecimal, networkOf, isTime, isNotRecorded, isDate, permitted, meant, valueOf}
 use Rattle.rows.specs.Row.{Content, format, title}
 use Rattle.originals.specs.declared.InForce.{InForce}

@@ -7,14 +7,14 @@ use native.Mathlib.Omega.{arith}
 use borrow.Author.Tests.{leb-true}
 use lib.Dec.{leb}
 use Rattle.answer.proofs.Cases.{both-true, by-test}
-use Rattle.figures.specs.declared.Colour.{Colour}
-use Rattle.figures.specs.declared.Sign.{Sign}
-use Rattle.figures.specs.declared.Sign.the-variants.{Decimal}
-use Rattle.figures.specs.declared.Kind.{Kind}
-use Rattle.figures.specs.declared.Kind.the-variants as kind
-use Rattle.figures.specs.Codes.{isDecimal, isLetter, figure}
-use Rattle.figures.specs.Formats.{pattern, isFigure, fits, figuresBy, Stands}
-use Rattle.figures.specs.Permitted.{at, two, twoHexadecimal}
+use Rattle.codes.specs.declared.Colour.{Colour}
+use Rattle.codes.specs.Codes.{isDecimal, isLetter, figure}
+use Rattle.formats.specs.declared.Sign.{Sign}
+use Rattle.formats.specs.declared.Sign.the-variants.{Decimal}
+use Rattle.formats.specs.declared.Kind.{Kind}
+use Rattle.formats.specs.declared.Kind.the-variants as kind
+use Rattle.formats.specs.Formats.{pattern, isFigure, fits, figuresBy, Stands, at}
+use Rattle.figures.specs.Permitted.{two, twoHexadecimal}
 
 abbrev decimals : ℕ → List Sign
 decimals zero = []

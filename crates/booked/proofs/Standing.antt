@@ -3,8 +3,8 @@ use Prim.Native.Nat.{ℕ, suc, _≤_}
 use mathlib.Core.Path.{_≡_}
 use mathlib.Core.Bool.{Bool, true, false}
 use mathlib.Core.List.{List, [], _∷_, _++_}
-use Rattle.figures.specs.declared.Colour.{Colour}
-use Rattle.figures.specs.declared.Kind.the-variants as kind
+use Rattle.codes.specs.declared.Colour.{Colour}
+use Rattle.formats.specs.declared.Kind.the-variants as kind
 use Rattle.figures.specs.Permitted.{two, twoHexadecimal}
 use Rattle.rows.specs.Row.{Content, format, title, Contains, figures, titled, text}
 use Rattle.rows.specs.Row as rows

@@ -4,8 +4,8 @@ use mathlib.Core.Path.{_≡_, refl}
 use mathlib.Core.Bool.{true}
 use mathlib.Core.List.{List, [], _∷_, _++_}
 use Rattle.answer.proofs.Cases.{both-true}
-use Rattle.figures.specs.declared.Kind.{Kind}
-use Rattle.figures.specs.declared.Kind.the-variants as kind
+use Rattle.formats.specs.declared.Kind.{Kind}
+use Rattle.formats.specs.declared.Kind.the-variants as kind
 use Rattle.figures.specs.Permitted.{two, isTime, permitted, meant}
 use Rattle.rows.specs.Row.{Content, format, title}
 use Rattle.announced.specs.declared.Time.{Time}

@@ -3,10 +3,11 @@ use Prim.Native.Nat.{ℕ}
 use mathlib.Core.Path.{_≡_, refl, subst}
 use mathlib.Core.List.{List, [], _∷_}
 use Rattle.answer.specs.Answer.{Answer, refused, given}
-use Rattle.figures.specs.Codes.{isMark, colourBy}
-use Rattle.figures.specs.Formats.{startOf}
-use Rattle.figures.specs.Permitted.{permitted, valueOf, counted}
-use Rattle.figures.specs.Taken.{kindIn, kindFrom}
+use Rattle.codes.specs.Codes.{isMark, colourBy}
+use Rattle.formats.specs.Formats.{startOf}
+use Rattle.formats.specs.Taken.{kindIn, kindFrom}
+use Rattle.sums.specs.Counted.{counted}
+use Rattle.figures.specs.Permitted.{permitted, valueOf}
 use Rattle.rows.specs.Title.{isOpening}
 use Rattle.rows.specs.Taken.{kindHere, titleHere, rowNext, rowAfter, givenHere, givenFrom, rowGiven}
 use Rattle.announced.specs.Times.{time, timesIn}

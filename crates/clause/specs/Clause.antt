@@ -5,8 +5,8 @@ use Prim.Native.Nat.{ℕ}
 use mathlib.Core.List.{List, [], _∷_, map}
 use Rattle.answer.specs.Answer.{refused, given}
 use Rattle.answer.specs.Lists.{joined, filled}
+use Rattle.codes.specs.Codes.{conceal}
 use Rattle.figures.specs.declared.Offset.the-variants.{Plus}
-use Rattle.figures.specs.Codes.{conceal}
 use Rattle.announced.specs.declared.Time.{Time}
 use Rattle.announced.specs.Times.{time}
 use Rattle.preview.specs.declared.Programme.{Programme}

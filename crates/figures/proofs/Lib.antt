@@ -1,3 +1,1 @@
-pub mod Facts
-pub mod Standing
 pub mod Proved

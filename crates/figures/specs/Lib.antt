@@ -1,5 +1,3 @@
-pub mod Codes
-pub mod Formats
 pub mod Permitted
 pub mod Taken
 pub mod Laws

@@ -1,19 +1,15 @@
 -- R5: the permitted figures of a format, and what they mean (EN 300 231 clause 7.3.1.3; document 02, #108).
 use Prim.Native.Nat.{ℕ, _+_, _*_, _%_}
-use mathlib.Core.Bool.{Bool, true, false, cond, not, _&&_, _||_}
+use mathlib.Core.Bool.{Bool, true, cond, not, _&&_, _||_}
 use mathlib.Core.List.{List, [], _∷_}
 use lib.Dec.{leb, ltb, eqb}
-use lib.ListN.{getD}
-use Rattle.figures.specs.declared.Kind.{Kind}
-use Rattle.figures.specs.declared.Kind.the-variants as kind
+use Rattle.formats.specs.declared.Kind.{Kind}
+use Rattle.formats.specs.declared.Kind.the-variants as kind
+use Rattle.formats.specs.Formats.{at}
 use Rattle.figures.specs.declared.Offset.{Offset}
 use Rattle.figures.specs.declared.Offset.the-variants.{Plus, Minus}
 use Rattle.figures.specs.declared.Value.{Value}
 use Rattle.figures.specs.declared.Value.the-variants as value
-
--- figure number i
-abbrev pub at : List ℕ → ℕ → ℕ
-at fs i = getD fs i 0
 
 -- the number that figures i and i + 1 show, in decimal
 abbrev pub two : List ℕ → ℕ → ℕ
@@ -85,26 +81,6 @@ meant kind.Word fs = value.Word (twoHexadecimal fs 0)
 -- `Wrong` where the figures are not permitted
 unfoldable pub valueOf : Kind → List ℕ → Value
 valueOf k fs = cond (permitted k fs) (meant k fs) value.Wrong
-
--- ── what they add (R15) ────────────────────────────────────────────────────────────────────────────────────────────
-abbrev pub sumOf : List ℕ → ℕ
-sumOf [] = 0
-sumOf (f ∷ fs) = f + sumOf fs
-
-abbrev pub isWord : Kind → Bool
-isWord kind.Text = false
-isWord kind.Single = false
-isWord kind.Double = false
-isWord kind.Original = false
-isWord kind.Date = false
-isWord kind.Network = false
-isWord kind.Offset = false
-isWord kind.Pty = false
-isWord kind.Word = true
-
--- 'the sum of all figures .. of all figure formats on the page but protection words'
-unfoldable pub counted : Kind → List ℕ → ℕ
-counted k fs = cond (isWord k) 0 (sumOf fs)
 
 -- the protection word that a format shows, if it is one
 abbrev pub wordsOf : Value → List ℕ

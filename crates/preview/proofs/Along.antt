@@ -11,14 +11,16 @@ use lib.Seq.{set-out}
 use Rattle.answer.specs.Lists.{some, filled}
 use Rattle.answer.proofs.Cases.{by-test}
 use Rattle.answer.proofs.Filled.{filled-more}
-use Rattle.figures.specs.declared.Kind.{Kind}
-use Rattle.figures.specs.declared.Kind.the-variants as kind
+use Rattle.codes.specs.Codes.{isMark}
+use Rattle.formats.specs.declared.Kind.{Kind}
+use Rattle.formats.specs.declared.Kind.the-variants as kind
+use Rattle.formats.specs.Taken.{isText}
+use Rattle.sums.specs.Counted.{counted}
 use Rattle.figures.specs.declared.Value.{Value}
 use Rattle.figures.specs.declared.Value.the-variants as value
 use Rattle.figures.specs.declared.Found.{Found}
-use Rattle.figures.specs.Codes.{isMark}
-use Rattle.figures.specs.Permitted.{permitted, meant, valueOf, counted, wordsOf}
-use Rattle.figures.specs.Taken.{isText, foundBy}
+use Rattle.figures.specs.Permitted.{permitted, meant, valueOf, wordsOf}
+use Rattle.figures.specs.Taken.{foundBy}
 use Rattle.rows.specs.declared.Row.{Row}
 use Rattle.rows.specs.Title.{beginsPair}
 use Rattle.rows.specs.Row.{Content, format, title}

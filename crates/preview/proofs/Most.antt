@@ -5,7 +5,7 @@ use mathlib.Core.Bool.{Bool, true, false, cond}
 use mathlib.Core.List.{List, [], _∷_, _++_}
 use native.Mathlib.Omega.{arith}
 use lib.ListN.{length}
-use Rattle.figures.specs.declared.Colour.{Colour}
+use Rattle.codes.specs.declared.Colour.{Colour}
 use Rattle.figures.specs.declared.Value.{Value}
 use Rattle.figures.specs.declared.Value.the-variants as value
 use Rattle.figures.specs.Permitted.{valueOf}

@@ -7,7 +7,7 @@ use native.Mathlib.Omega.{arith}
 use lib.ListN.{length}
 use Rattle.answer.specs.Answer.{refused, given}
 use Rattle.answer.proofs.Cases.{by-test}
-use Rattle.figures.specs.Permitted.{sumOf, isWord, counted}
+use Rattle.sums.specs.Counted.{sumOf, isWord, counted}
 use Rattle.rows.specs.Row.{Content, format, title}
 use Rattle.preview.specs.declared.Programme.{Programme}
 use Rattle.preview.specs.Page.{Reading, Reads, programmesBy, sumIn, agrees, Answers, no-reading, wrong-word, read}

@@ -6,9 +6,9 @@ use mathlib.Core.List.{List, [], _∷_}
 use native.Mathlib.Omega.{arith}
 use lib.ListN.{length, getD, drop}
 use Rattle.answer.proofs.Cases.{by-test}
+use Rattle.codes.specs.Codes.{isMark}
+use Rattle.formats.specs.Taken.{isText}
 use Rattle.figures.specs.declared.Found.{Found}
-use Rattle.figures.specs.Codes.{isMark}
-use Rattle.figures.specs.Taken.{isText}
 use Rattle.rows.specs.declared.Row.{Row}
 use Rattle.rows.specs.Title.{isOpening, beginsPair}
 use Rattle.rows.specs.Taken.{kindHere, foundHere, titledBy, titleHere, isTextValue, rowNext, rowAfter, rowStart}

@@ -6,7 +6,7 @@ use mathlib.Core.List.{List, [], _∷_}
 use lib.Dec.{ltb}
 use lib.ListN.{take, drop}
 use Rattle.answer.specs.Answer.{Answer}
-use Rattle.figures.specs.Codes.{SameButText}
+use Rattle.codes.specs.Codes.{SameButText}
 use Rattle.rows.proofs.Texts.{either, same-length, same-given}
 use Rattle.preview.specs.declared.Programme.{Programme}
 use Rattle.preview.specs.Page.{rowOf, tooHigh, Answers}

@@ -5,8 +5,8 @@ use mathlib.Core.Path.{_≡_}
 use mathlib.Core.List.{List, [], _∷_, _++_}
 use lib.ListN.{length}
 use Rattle.answer.specs.Answer.{Answer, refused, given, Unique}
-use Rattle.figures.specs.Codes.{SameButText}
-use Rattle.figures.specs.Permitted.{sumOf, isWord}
+use Rattle.codes.specs.Codes.{SameButText}
+use Rattle.sums.specs.Counted.{sumOf, isWord}
 use Rattle.rows.specs.Row.{Content, format, title}
 use Rattle.preview.specs.declared.Programme.{Programme}
 use Rattle.preview.specs.declared.Verdict.{Verdict}

@@ -7,7 +7,8 @@ use lib.Dec.{ltb, eqb}
 use lib.ListN.{length, take, drop}
 use Rattle.answer.specs.Answer.{Answer, refused, given}
 use Rattle.answer.specs.Lists.{some}
-use Rattle.figures.specs.Permitted.{permitted, valueOf, counted, wordsOf}
+use Rattle.sums.specs.Counted.{counted}
+use Rattle.figures.specs.Permitted.{permitted, valueOf, wordsOf}
 use Rattle.rows.specs.Row.{Content, format, title, RowContains}
 use Rattle.announced.specs.declared.Time.{Time}
 use Rattle.announced.specs.declared.Announcement.{Announcement}

@@ -5,9 +5,9 @@ use mathlib.Core.List.{List, [], _∷_}
 use lib.Dec.{eqb}
 use lib.ListN.{take}
 use Rattle.answer.specs.Lists.{filled}
+use Rattle.codes.specs.Codes.{isMark}
+use Rattle.formats.specs.Taken.{isText}
 use Rattle.figures.specs.declared.Found.{Found}
-use Rattle.figures.specs.Codes.{isMark}
-use Rattle.figures.specs.Taken.{isText}
 use Rattle.rows.specs.declared.Row.{Row}
 use Rattle.rows.specs.Title.{beginsPair}
 use Rattle.rows.specs.Taken.{kindHere, foundHere, titleHere, rowAfter, rowStart}

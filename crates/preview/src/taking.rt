@@ -16,7 +16,7 @@ fn pair_at(bytes: &[u8], r: usize, p: usize) -> bool
 {
     if p < 39 {
         let at = 40 * r + p;
-        return figures::is_pair(bytes[at], bytes[at + 1]);
+        return codes::is_pair(bytes[at], bytes[at + 1]);
     }
     false
 }
@@ -47,7 +47,7 @@ pub(crate) fn take_row(bytes: &[u8], r: usize, table: Table) -> Table
     while p < 40 {
         let c = bytes[40 * r + p];
         let pair = pair_at(bytes, r, p);
-        let found = x.found(figures::is_mark(c));
+        let found = x.found(codes::is_mark(c));
         let v = found.value;
         let text = rows::is_text(v);
         let titled = x.titled(pair, text);

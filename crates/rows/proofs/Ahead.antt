@@ -2,11 +2,11 @@
 use Prim.Native.Nat.{ℕ, suc, _+_}
 use mathlib.Core.Bool.{Bool, true, false, cond, not, _&&_}
 use mathlib.Core.List.{List, [], _∷_}
-use Rattle.figures.specs.declared.Colour.{Colour}
-use Rattle.figures.specs.Codes.{colourBy}
-use Rattle.figures.specs.Formats.{pattern, figuresBy}
-use Rattle.figures.specs.Taken.{isText}
-use Rattle.figures.proofs.Standing.{until, kindAt}
+use Rattle.codes.specs.declared.Colour.{Colour}
+use Rattle.codes.specs.Codes.{colourBy}
+use Rattle.formats.specs.Formats.{pattern, figuresBy}
+use Rattle.formats.specs.Taken.{isText}
+use Rattle.formats.proofs.Standing.{until, kindAt}
 use Rattle.rows.specs.declared.Reading.{Reading}
 use Rattle.rows.specs.declared.Reading.the-variants.{Opened}
 use Rattle.rows.specs.Title.{isOpening, isForbidden, beginsPair}

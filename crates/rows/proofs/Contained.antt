@@ -9,12 +9,12 @@ use lib.Dec.{leb, eqb}
 use lib.ListN.{length}
 use Rattle.answer.specs.Lists.{some}
 use Rattle.answer.proofs.Cases.{by-test, both-true, both-false, either-true}
-use Rattle.figures.specs.declared.Colour.{Colour}
-use Rattle.figures.specs.declared.Kind.{Kind}
-use Rattle.figures.specs.Codes.{isColour, isMagenta, isConceal, isMark, colourBy}
-use Rattle.figures.specs.Formats.{startOf, pattern, figuresBy, Stands}
-use Rattle.figures.specs.Taken.{isText}
-use Rattle.figures.proofs.Standing.{until, kindAt, stands-kind, kind-stands, text-none, empty-text}
+use Rattle.codes.specs.declared.Colour.{Colour}
+use Rattle.codes.specs.Codes.{isColour, isMagenta, conceal, isConceal, isMark, colourBy}
+use Rattle.formats.specs.declared.Kind.{Kind}
+use Rattle.formats.specs.Formats.{startOf, pattern, figuresBy, Stands}
+use Rattle.formats.specs.Taken.{isText}
+use Rattle.formats.proofs.Standing.{until, kindAt, stands-kind, kind-stands, text-none, empty-text}
 use Rattle.rows.specs.declared.Reading.the-variants.{Opened, Empty, Filled}
 use Rattle.rows.specs.Title.{isPlain, isOpening, beginsWith, beginsPair, textOf, isForbidden, NoFormat, NoFormats, Title}
 use Rattle.rows.specs.Row.{Content, Contains, end, figures, titled, text}
@@ -94,7 +94,7 @@ opening-allowed k c o =
     let x = both-true (leb 1 c && leb c 7) (not (eqb c 5)) t in
     let low : c ≤ 7 = leb-true c 7 (both-true (leb 1 c) (leb c 7) (x .0) .1) in
     rw (lt-leb 16 c (omega (arith, low)), not-true (eqb c 5) (x .1)) refl)
-    (λ t. rw (eqb-true c 27 (both-true (isConceal c) (isPlain k) t .0)) refl)
+    (λ t. rw (eqb-true c conceal (both-true (isConceal c) (isPlain k) t .0)) refl)
 
 -- the second code of a pair, and what follows it
 pair-parts : (c : ℕ) (cs : List ℕ) → beginsPair (c ∷ cs) ≡ true → (rest : List ℕ) × (cs ≡ c ∷ rest)

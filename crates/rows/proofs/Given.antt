@@ -10,14 +10,14 @@ use lib.Dec.{leb, ltb}
 use lib.ListN.{length, take, set, length-append, length-set}
 use lib.Seq.{length-take-le, take-suc-set}
 use Rattle.answer.proofs.Cases.{by-test, both-true}
-use Rattle.figures.specs.declared.Colour.{Colour}
-use Rattle.figures.specs.declared.Colour.the-variants as colour
-use Rattle.figures.specs.declared.Kind.the-variants as kind
-use Rattle.figures.specs.declared.Start.{Start}
-use Rattle.figures.specs.Codes.{isMark, colourBy}
-use Rattle.figures.specs.Formats.{startOf, pattern, figuresBy}
-use Rattle.figures.specs.Taken.{isText, ownCodes, kindIn, kindFrom}
-use Rattle.figures.proofs.Standing.{until, kindAt, fits-length, kind-fits, many-text, no-start, nothing-text}
+use Rattle.codes.specs.declared.Colour.{Colour}
+use Rattle.codes.specs.declared.Colour.the-variants as colour
+use Rattle.codes.specs.Codes.{isMark, colourBy}
+use Rattle.formats.specs.declared.Kind.the-variants as kind
+use Rattle.formats.specs.declared.Start.{Start}
+use Rattle.formats.specs.Formats.{startOf, pattern, figuresBy}
+use Rattle.formats.specs.Taken.{isText, ownCodes, kindIn, kindFrom}
+use Rattle.formats.proofs.Standing.{until, kindAt, fits-length, kind-fits, many-text, no-start, nothing-text}
 use Rattle.rows.specs.declared.Reading.{Reading}
 use Rattle.rows.specs.declared.Reading.the-variants.{Nothing, Opened, Empty, Filled, Done}
 use Rattle.rows.specs.declared.Row.{Row}

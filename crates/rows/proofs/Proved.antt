@@ -2,7 +2,7 @@
 use mathlib.Core.Path.{sym, _∙_}
 use mathlib.Core.Bool.{false}
 use Rattle.answer.proofs.Answers.{equation}
-use Rattle.figures.specs.declared.Colour.the-variants as colour
+use Rattle.codes.specs.declared.Colour.the-variants as colour
 use Rattle.rows.specs.Laws.{Laws}
 use Rattle.rows.specs.Taken.{foundHere, titledBy, isTextValue, rowNext, rowStart}
 use Rattle.rows.proofs.Given.{row-given}

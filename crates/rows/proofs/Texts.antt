@@ -8,17 +8,16 @@ use borrow.Author.Tests.{ne-eqb}
 use lib.Dec.{ltb, eqb}
 use lib.ListN.{length}
 use Rattle.answer.proofs.Cases.{by-test, both-true, both-false}
-use Rattle.figures.specs.declared.Colour.{Colour}
-use Rattle.figures.specs.declared.Colour.the-variants as colour
-use Rattle.figures.specs.declared.Start.{Start}
-use Rattle.figures.specs.declared.Start.the-variants as start
-use Rattle.figures.specs.declared.Sign.{Sign}
-use Rattle.figures.specs.declared.Sign.the-variants.{Decimal, Hexadecimal, Point, Hyphen, PlusMinus, LetterF}
-use Rattle.figures.specs.Codes.{isColour, isMagenta, isConceal, isDecimal, isLetter, isHexadecimal, point, hyphen, isGraphics, isMark, isPair, hasEffect, SameButText, colourBy}
-use Rattle.figures.specs.Formats.{startOf, pattern, shows, fits}
-use Rattle.figures.specs.Permitted.{at}
-use Rattle.figures.specs.Taken.{isText, kindBy, kindIn}
-use Rattle.figures.proofs.Standing.{until, kindAt, kind-fits, no-start, nothing-text}
+use Rattle.codes.specs.declared.Colour.{Colour}
+use Rattle.codes.specs.declared.Colour.the-variants as colour
+use Rattle.codes.specs.Codes.{isColour, isMagenta, isConceal, isDecimal, isLetter, isHexadecimal, point, hyphen, isGraphics, isMark, isPair, hasEffect, SameButText, colourBy}
+use Rattle.formats.specs.declared.Start.{Start}
+use Rattle.formats.specs.declared.Start.the-variants as start
+use Rattle.formats.specs.declared.Sign.{Sign}
+use Rattle.formats.specs.declared.Sign.the-variants.{Decimal, Hexadecimal, Point, Hyphen, PlusMinus, LetterF}
+use Rattle.formats.specs.Formats.{startOf, pattern, shows, fits, at}
+use Rattle.formats.specs.Taken.{isText, kindBy, kindIn}
+use Rattle.formats.proofs.Standing.{until, kindAt, kind-fits, no-start, nothing-text}
 use Rattle.rows.specs.declared.Reading.{Reading}
 use Rattle.rows.specs.Title.{isForbidden, beginsPair}
 use Rattle.rows.specs.Taken.{advanced, rowGiven}

@@ -3,12 +3,13 @@ use Prim.Native.Nat.{ℕ}
 use mathlib.Core.Path.{_≡_, refl}
 use mathlib.Core.Bool.{Bool, true, false, cond}
 use mathlib.Core.List.{List}
-use Rattle.figures.specs.declared.Kind.{Kind}
-use Rattle.figures.specs.declared.Kind.the-variants as kind
+use Rattle.formats.specs.declared.Kind.{Kind}
+use Rattle.formats.specs.declared.Kind.the-variants as kind
+use Rattle.formats.specs.Taken.{isText}
 use Rattle.figures.specs.declared.Value.{Value}
 use Rattle.figures.specs.declared.Value.the-variants as value
 use Rattle.figures.specs.Permitted.{permitted, meant, valueOf}
-use Rattle.figures.specs.Taken.{isText, foundBy}
+use Rattle.figures.specs.Taken.{foundBy}
 use Rattle.rows.specs.declared.Row.{Row}
 use Rattle.rows.specs.Taken.{kindHere, foundHere, isTextValue}
 

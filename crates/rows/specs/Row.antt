@@ -3,11 +3,11 @@ use Prim.Native.Nat.{ℕ, suc, _+_}
 use mathlib.Core.Bool.{Bool, true, false}
 use mathlib.Core.List.{List, [], _∷_}
 use mathlib.Core.Path.{_≡_}
-use Rattle.figures.specs.declared.Colour.{Colour}
-use Rattle.figures.specs.declared.Colour.the-variants as colour
-use Rattle.figures.specs.declared.Kind.{Kind}
-use Rattle.figures.specs.Codes.{colourBy}
-use Rattle.figures.specs.Formats.{Stands}
+use Rattle.codes.specs.declared.Colour.{Colour}
+use Rattle.codes.specs.declared.Colour.the-variants as colour
+use Rattle.codes.specs.Codes.{colourBy}
+use Rattle.formats.specs.declared.Kind.{Kind}
+use Rattle.formats.specs.Formats.{Stands}
 use Rattle.rows.specs.Title.{NoFormat, Title}
 
 -- what counts: a figure format, or a title, with the row and column of its text's first code (R10)

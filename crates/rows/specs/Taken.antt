@@ -4,16 +4,17 @@ use mathlib.Core.Bool.{Bool, true, false, cond, not, _&&_, _||_}
 use mathlib.Core.List.{List, [], _∷_, _++_}
 use lib.Dec.{ltb}
 use lib.ListN.{set, replicate}
-use Rattle.figures.specs.declared.Colour.the-variants as colour
-use Rattle.figures.specs.declared.Start.the-variants as start
-use Rattle.figures.specs.declared.Kind.{Kind}
-use Rattle.figures.specs.declared.Kind.the-variants as kind
+use Rattle.codes.specs.declared.Colour.the-variants as colour
+use Rattle.codes.specs.Codes.{isMark, colourBy}
+use Rattle.formats.specs.declared.Start.the-variants as start
+use Rattle.formats.specs.declared.Kind.{Kind}
+use Rattle.formats.specs.declared.Kind.the-variants as kind
+use Rattle.formats.specs.Formats.{startOf, pattern, figuresBy}
+use Rattle.formats.specs.Taken.{isText, ownCodes, kindFrom}
 use Rattle.figures.specs.declared.Value.{Value}
 use Rattle.figures.specs.declared.Value.the-variants as value
 use Rattle.figures.specs.declared.Found.{Found}
-use Rattle.figures.specs.Codes.{isMark, colourBy}
-use Rattle.figures.specs.Formats.{startOf, pattern, figuresBy}
-use Rattle.figures.specs.Taken.{isText, ownCodes, kindFrom, foundBy}
+use Rattle.figures.specs.Taken.{foundBy}
 use Rattle.rows.specs.declared.Reading.{Reading}
 use Rattle.rows.specs.declared.Reading.the-variants.{Nothing, Opened, Empty, Filled, Done}
 use Rattle.rows.specs.declared.Row.{Row}

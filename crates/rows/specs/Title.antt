@@ -6,11 +6,11 @@ use mathlib.Core.Path.{_≡_}
 use lib.Dec.{eqb}
 use lib.ListN.{length}
 use Rattle.answer.specs.Lists.{some}
-use Rattle.figures.specs.declared.Colour.{Colour}
-use Rattle.figures.specs.declared.Colour.the-variants as colour
-use Rattle.figures.specs.declared.Kind.{Kind}
-use Rattle.figures.specs.Codes.{isColour, isMagenta, isConceal, isGraphics, isPair, colourBy}
-use Rattle.figures.specs.Formats.{Stands}
+use Rattle.codes.specs.declared.Colour.{Colour}
+use Rattle.codes.specs.declared.Colour.the-variants as colour
+use Rattle.codes.specs.Codes.{isColour, isMagenta, isConceal, isGraphics, isPair, colourBy}
+use Rattle.formats.specs.declared.Kind.{Kind}
+use Rattle.formats.specs.Formats.{Stands}
 
 abbrev pub isPlain : Colour → Bool
 isPlain colour.Plain = true

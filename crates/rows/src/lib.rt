@@ -4,10 +4,10 @@ ghost use mathlib.Core.Path.{_≡_};
 ghost use lib.ListN.{set};
 ghost use Rattle.rows.specs.Laws.{Laws};
 ghost use Rattle.rows.specs.Taken.{foundHere, titledBy, isTextValue, rowNext, rowStart, countAfter};
-use figures::Colour;
+use codes::Colour;
 use figures::Found;
-use figures::Start;
 use figures::Value;
+use formats::Start;
 
 mod title; // the title that is being read
 
@@ -114,12 +114,12 @@ impl Row {
         let t = self.title;
         let title = title::next(k, t, c, pair, text);
         let column = title::column(k, self.column, c, p, pair);
-        let colour = figures::colour_by(k, c);
+        let colour = codes::colour_by(k, c);
         let codes = self.codes;
-        if figures::is_mark(c) {
+        if codes::is_mark(c) {
             return Row {
                 colour,
-                start: figures::start_of(k, c),
+                start: formats::start_of(k, c),
                 count: 0,
                 codes,
                 title,

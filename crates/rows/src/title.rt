@@ -4,7 +4,7 @@ ghost use mathlib.Core.Path.{_≡_};
 ghost use Rattle.rows.specs.Title.{isPlain, isOpening, isForbidden};
 ghost use Rattle.rows.specs.Taken.{isFilled, isDone, advanced, begun, kept};
 use crate::Reading;
-use figures::Colour;
+use codes::Colour;
 
 fn is_plain(k: Colour) -> bool
     ensures { λ r. ⌜ r ≡ isPlain k ⌝ }
@@ -20,14 +20,14 @@ fn is_plain(k: Colour) -> bool
 fn is_opening(k: Colour, c: u8) -> bool
     ensures { λ r. ⌜ r ≡ isOpening k c ⌝ }
 {
-    figures::is_colour(c) | ((c == 27) & is_plain(k))
+    codes::is_colour(c) | ((c == codes::CONCEAL) & is_plain(k))
 }
 
 // 'The text has no graphics code and no `:`.'
 fn is_forbidden(c: u8) -> bool
     ensures { λ r. ⌜ r ≡ isForbidden c ⌝ }
 {
-    figures::is_graphics(c) | (c == 5)
+    codes::is_graphics(c) | (c == codes::MAGENTA)
 }
 
 pub(crate) fn is_filled(t: Reading) -> bool

@@ -1,7 +1,7 @@
 -- `two`: two figures in decimal fit.
 use borrow.Author.Needs.{needs}
 use native.Mathlib.Omega.{arith}
-use Rattle.figures.proofs.Facts.{figure-small}
+use Rattle.codes.proofs.Facts.{figure-small}
 use Rattle.figures.proofs.meaning.two.Statement.{statement}
 use Rattle.figures.proofs.meaning.two.Tie as tie
 

@@ -1,7 +1,7 @@
 -- `two_hexadecimal`: two figures in hexadecimal fit.
 use borrow.Author.Needs.{needs}
 use native.Mathlib.Omega.{arith}
-use Rattle.figures.proofs.Facts.{figure-small}
+use Rattle.codes.proofs.Facts.{figure-small}
 use Rattle.figures.proofs.meaning.two_hexadecimal.Statement.{statement}
 use Rattle.figures.proofs.meaning.two_hexadecimal.Tie as tie
 

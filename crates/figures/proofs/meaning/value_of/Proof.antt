@@ -4,15 +4,16 @@ use Prim.Native.Nat.{ℕ, _+_, _*_}
 use mathlib.Core.List.{List}
 use mathlib.Core.Path.{_≡_, refl}
 use lib.ListN.{length}
-use Rattle.figures.specs.declared.Kind.{Kind}
-use Rattle.figures.specs.declared.Kind.the-variants as kind
+use Rattle.codes.specs.Codes.{figure}
+use Rattle.formats.specs.declared.Kind.{Kind}
+use Rattle.formats.specs.declared.Kind.the-variants as kind
+use Rattle.formats.specs.Formats.{pattern, figuresBy, at}
+use Rattle.formats.specs.Taken.{ownCodes}
+use Rattle.formats.proofs.Facts.{eleven}
 use Rattle.figures.specs.declared.Value.{Value}
 use Rattle.figures.specs.declared.Value.the-variants as value
-use Rattle.figures.specs.Codes.{figure}
-use Rattle.figures.specs.Formats.{pattern, figuresBy}
-use Rattle.figures.specs.Permitted.{at, permitted, valueOf}
-use Rattle.figures.specs.Taken.{ownCodes, singleBy, doubleBy, originalBy, dateBy, networkBy, offsetBy, ptyBy}
-use Rattle.figures.proofs.Facts.{eleven}
+use Rattle.figures.specs.Permitted.{permitted, valueOf}
+use Rattle.figures.specs.Taken.{singleBy, doubleBy, originalBy, dateBy, networkBy, offsetBy, ptyBy}
 use Rattle.figures.proofs.meaning.value_of.Statement.{statement}
 use Rattle.figures.proofs.meaning.value_of.Tie as tie
 

@@ -2,7 +2,8 @@
 use borrow.Author.Needs.{needs}
 use mathlib.Core.Path.{_≡_, refl}
 use mathlib.Core.Bool.{true, false}
-use Rattle.figures.specs.Permitted.{permitted, valueOf, counted}
+use Rattle.sums.specs.Counted.{counted}
+use Rattle.figures.specs.Permitted.{permitted, valueOf}
 use Rattle.figures.specs.Taken.{foundBy, foundFrom}
 use Rattle.rows.specs.Taken.{kindHere, foundHere}
 use Rattle.rows.proofs.Row.found.Statement.{statement}

@@ -3,8 +3,8 @@ use borrow.Author.Needs.{needs}
 use mathlib.Core.Path.{_≡_, refl, sym, _∙_}
 use mathlib.Core.Bool.{true, false}
 use lib.ListN.{set}
-use Rattle.figures.specs.Codes.{isMark, colourBy}
-use Rattle.figures.specs.Formats.{startOf}
+use Rattle.codes.specs.Codes.{isMark, colourBy}
+use Rattle.formats.specs.Formats.{startOf}
 use Rattle.rows.specs.Taken.{titleNext, columnNext, countAfter, rowNext}
 use Rattle.rows.proofs.Row.next.Statement.{statement}
 use Rattle.rows.proofs.Row.next.Tie as tie

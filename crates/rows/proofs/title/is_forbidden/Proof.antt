@@ -1,7 +1,7 @@
 -- `is_forbidden`: a graphics code, or `:`.
 use borrow.Author.Needs.{needs}
 use mathlib.Core.Path.{_≡_, refl}
-use Rattle.figures.specs.Codes.{isGraphics}
+use Rattle.codes.specs.Codes.{isGraphics}
 use Rattle.rows.proofs.title.is_forbidden.Statement.{statement}
 use Rattle.rows.proofs.title.is_forbidden.Tie as tie
 

@@ -1,7 +1,7 @@
 -- `is_opening`: `+`, or `%` in plain.
 use borrow.Author.Needs.{needs}
 use mathlib.Core.Path.{_≡_, refl}
-use Rattle.figures.specs.Codes.{isColour}
+use Rattle.codes.specs.Codes.{isColour}
 use Rattle.rows.specs.Title.{isPlain, isOpening}
 use Rattle.rows.proofs.title.is_opening.Statement.{statement}
 use Rattle.rows.proofs.title.is_opening.Tie as tie
