@@ -67,3 +67,14 @@ pub fn printed(command: &[String], input: &[u8]) -> Vec<u8> {
     assert!(status.success() && said.is_empty(), "{command:?}: {status}: {said}");
     printed
 }
+
+/// `./play` and its like are run one at a time: each run looks first whether its program is built.
+static ONE: Mutex<()> = Mutex::new(());
+
+/// How lines of shell end that are run in the repository, with these words as `$1` and on.
+pub fn shell(lines: &str, words: &[&str]) -> Ended {
+    let _held = ONE.lock().unwrap_or_else(|held| held.into_inner());
+    let script = format!("cd \"$0\" || exit\n{lines}");
+    let command = ["bash", "-c", &script, &file("").display().to_string()];
+    ended(&command.iter().chain(words).map(|word| word.to_string()).collect::<Vec<String>>(), &[], WHOLE)
+}

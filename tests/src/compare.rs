@@ -30,7 +30,7 @@ pub fn many(program: Program) -> Start {
 }
 
 /// Every eighth sheet comes in small pieces, none of which an item fits.
-fn given(n: usize, bytes: Vec<u8>) -> Given {
+pub fn given(n: usize, bytes: Vec<u8>) -> Given {
     Given { at_most: if n % 8 == 1 { 13 } else { WHOLE }, ..Given::whole(bytes) }
 }
 

@@ -9,14 +9,39 @@ pub struct Program {
     pub script: &'static str,
     /// One of the stored sheets, or pages.
     pub example: &'static str,
-    /// What the independent side prints for a sheet, or a page.
+    /// What the script puts before it.
+    pub before: &'static [u8],
+    /// What the independent side prints for all of this.
     pub expected: fn(&[u8]) -> String,
+    /// And says on standard error.
+    pub said: fn(&[u8]) -> String,
 }
 
-pub const PLAY: Program = Program { name: "play", script: "./play", example: "sheets/whole_case.sheet", expected: sheet::play };
-pub const AERIAL: Program = Program { name: "aerial", script: "./aerial", example: "sheets/whole_case.sheet", expected: aerial::print };
-pub const PAGES: Program = Program { name: "pages", script: "./pages", example: "pages.d/an_evening.page", expected: preselection::print };
-pub const PREVIEW: Program = Program { name: "guide", script: "./preview", example: "preview.d/smallest.page", expected: preview::print };
+/// One that says nothing of what it can read.
+const fn program(name: &'static str, script: &'static str, example: &'static str, expected: fn(&[u8]) -> String) -> Program {
+    Program { name, script, example, before: &[], expected, said: |_| String::new() }
+}
+
+pub const PLAY: Program = program("play", "./play", "sheets/whole_case.sheet", sheet::play);
+pub const AERIAL: Program = program("aerial", "./aerial", "sheets/whole_case.sheet", aerial::print);
+pub const PAGES: Program = program("pages", "./pages", "pages.d/an_evening.page", preselection::print);
+pub const PREVIEW: Program = program("guide", "./preview", "preview.d/smallest.page", preview::print);
+pub const TIMERS: Program = Program {
+    before: &[2],
+    said: |input| section(input).map_or_else(|number| format!("timers: refused {number}\n"), |_| String::new()),
+    ..program("timers", "./preview --timers 2", "preview.d/to_record.page", |input| characters(&section(input).unwrap_or_default()))
+};
+
+/// The home tuner is the first byte. Without one there is no page either.
+fn section(input: &[u8]) -> Result<Vec<u8>, u8> {
+    let (tuner, page) = input.split_first().unwrap_or((&0, &[]));
+    preview::timers(*tuner, page)
+}
+
+/// A character for each byte, so that none is lost where it is no text.
+pub fn characters(bytes: &[u8]) -> String {
+    bytes.iter().map(|&byte| char::from(byte)).collect()
+}
 
 /// A sheet or a page, and how it is read.
 #[derive(Clone)]
@@ -39,7 +64,7 @@ impl Given {
 /// What a command prints; where it does not end well, or says something, there are lines more, so that it equals nothing that a sheet
 /// should print.
 fn text(ended: Ended) -> String {
-    let mut text = String::from_utf8_lossy(&ended.printed).into_owned();
+    let mut text = characters(&ended.printed);
     if !ended.status.success() {
         text += &format!("ended with {}\n", ended.status);
     }
@@ -68,14 +93,18 @@ impl Program {
 
     /// One start for all sheets, and a process for each: see `tests/compiled/src/again.rs`.
     pub fn each(&self, sheets: &[Given]) -> Vec<String> {
-        apart(&text(self.together(sheets)))
+        let (mut each, said) = self.told(sheets);
+        each.extend((!said.is_empty()).then_some(said));
+        each
     }
 
     /// The same, and apart from it what all say on standard error.
     pub fn told(&self, sheets: &[Given]) -> (Vec<String>, String) {
         let mut ended = self.together(sheets);
-        let said = std::mem::take(&mut ended.said);
-        (apart(&text(ended)), said)
+        let (printed, said) = (std::mem::take(&mut ended.printed), std::mem::take(&mut ended.said));
+        let (mut each, status) = (apart(&printed), text(ended));
+        each.extend((!status.is_empty()).then_some(status));
+        (each, said)
     }
 
     fn together(&self, sheets: &[Given]) -> Ended {
@@ -92,19 +121,16 @@ impl Program {
     }
 }
 
-/// What each sheet prints, out of what all print: a line that begins with `=` has the status of one's process.
-fn apart(text: &str) -> Vec<String> {
-    let (mut each, mut one) = (Vec::new(), String::new());
-    for line in text.split_inclusive('\n') {
-        if line != "= 0\n" {
-            one += line;
-        }
-        if line.starts_with('=') {
-            each.push(std::mem::take(&mut one));
-        }
-    }
-    if !one.is_empty() {
-        each.push(one);
+/// What each sheet prints, out of what all print: each behind its length, and with a line at its end that has the status of its process.
+/// What is cut, or has another status than 0, has a line more, so that it equals nothing that a sheet should print.
+fn apart(printed: &[u8]) -> Vec<String> {
+    let (mut each, mut rest) = (Vec::new(), printed);
+    while !rest.is_empty() {
+        let length = rest.get(..4).map_or(rest.len(), |bytes| 4 + u32::from_be_bytes(bytes.try_into().unwrap()) as usize);
+        let (one, after) = rest.split_at(length.min(rest.len()));
+        let whole = characters(one.get(4..).unwrap_or(one));
+        each.push(whole.strip_suffix("= 0\n").map_or_else(|| format!("{whole}ended otherwise\n"), String::from));
+        rest = after;
     }
     each
 }

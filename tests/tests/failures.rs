@@ -1,13 +1,12 @@
 //! The programs come to an end whatever they read, and tell what they could not read or write.
-use against_the_world::command::{ended, file, WHOLE};
-use against_the_world::program::{Given, Program, AERIAL, PAGES, PLAY, PREVIEW};
+use against_the_world::command::{file, shell};
+use against_the_world::program::{characters, Given, Program, AERIAL, PAGES, PLAY, PREVIEW, TIMERS};
 use std::fs;
-use std::sync::Mutex;
 
 /// The longest sheet, and one byte that is left over.
 const DECIDING: usize = 1 + 255 * 9 + 2 + 65_535 * 47 + 1;
 
-const PROGRAMS: [Program; 4] = [PLAY, AERIAL, PAGES, PREVIEW];
+const PROGRAMS: [Program; 5] = [PLAY, AERIAL, PAGES, PREVIEW, TIMERS];
 
 /// What a program says of input and of output.
 fn input(program: Program, why: &str) -> String {
@@ -19,31 +18,32 @@ fn output(program: Program, why: &str) -> String {
 }
 
 fn example(program: Program) -> Vec<u8> {
-    fs::read(file(program.example)).unwrap()
+    [program.before, &fs::read(file(program.example)).unwrap()].concat()
 }
 
 /// What is told of input whose end was not seen: a sheet as far as it came, and then as short input. Of a page nothing, since it would be
 /// another page where it is cut after a packet, and more may follow a whole one.
 fn unseen(program: Program, came: &[u8]) -> String {
-    if [PAGES.name, PREVIEW.name].contains(&program.name) {
+    if [PAGES.name, PREVIEW.name, TIMERS.name].contains(&program.name) {
         return String::new();
     }
     (program.expected)(came).replace('Z', "X")
 }
 
-/// `./play`, `./aerial`, `./pages` or `./preview` is run once at a time: each run looks first whether its program is built.
-static ONE: Mutex<()> = Mutex::new(());
-
 /// A line of shell in the repository, with `./it` for the program, ends within a minute, with this status, and prints and says this.
 fn ends(program: Program, line: &str, status: i32, printed: &str, said: &str) {
-    let _held = ONE.lock().unwrap_or_else(|held| held.into_inner());
     let line = line.replace("./it", &format!("timeout 60 {}", program.script));
-    let script = format!("cd \"$1\" && {line}");
-    let words = ["sh", "-c", &script, "sh", &file("").display().to_string()].map(String::from);
-    let end = ended(&words, &[], WHOLE);
+    let end = shell(&line, &[]);
     assert_eq!(end.said, said, "{line}");
-    assert!(end.printed == printed.as_bytes(), "{line}: {:?}", String::from_utf8_lossy(&end.printed).lines().last());
+    assert!(characters(&end.printed) == printed, "{line}: {:?}", String::from_utf8_lossy(&end.printed).lines().last());
     assert_eq!(end.status.code(), Some(status), "{line}");
+}
+
+/// The same as the independent side has it for this input; where it says something, the status is not 0.
+fn ends_as(program: Program, line: &str, input: &[u8]) {
+    let input = [program.before, input].concat();
+    let said = (program.said)(&input);
+    ends(program, line, !said.is_empty() as i32, &(program.expected)(&input), &said);
 }
 
 #[test]
@@ -52,12 +52,13 @@ fn zeros_without_end() {
     ends(AERIAL, "./it </dev/zero", 0, "X\n", "");
     ends(PAGES, "./it </dev/zero", 0, "R 21\n", "");
     ends(PREVIEW, "./it </dev/zero", 0, "R 23\n", "");
+    ends(TIMERS, "./it </dev/zero", 1, "", "timers: refused 23\n");
 }
 
 #[test]
 fn other_bytes_without_end() {
     for it in PROGRAMS {
-        ends(it, r"tr '\0' '\377' </dev/zero | ./it", 0, &(it.expected)(&[0xFF; DECIDING]), "");
+        ends_as(it, r"tr '\0' '\377' </dev/zero | ./it", &[0xFF; DECIDING]);
     }
 }
 
@@ -81,12 +82,38 @@ fn pages_without_end() {
     ends(PAGES, &line, 0, "R 18\n", "");
     let line = format!("{{ cat {}; cat /dev/zero; }} | ./it", PREVIEW.example);
     ends(PREVIEW, &line, 0, "R 23\n", "");
+    ends(TIMERS, &line, 1, "", "timers: refused 23\n");
 }
 
+/// Where something stands before it, the script reads it, and tells; the program has nothing to read then.
 #[test]
 fn a_directory() {
     for it in PROGRAMS {
-        ends(it, "./it sheets", 1, &unseen(it, &[]), &input(it, "Is a directory"));
+        let said = input(it, "Is a directory");
+        let said = if it.before.is_empty() { said } else { format!("{}: the input could not be read\n", it.name) };
+        ends(it, "./it sheets", 1, &unseen(it, &[]), &said);
+    }
+}
+
+#[test]
+fn a_file_that_is_not_there() {
+    for it in PROGRAMS {
+        ends(it, "./it sheets/none", 1, "", &format!("{}: cannot read sheets/none\n", it.name));
+    }
+}
+
+/// Two files; and of a home tuner none, one that is none of the four, or a file in its place.
+#[test]
+fn wrong_words() {
+    let usage = "\
+usage: ./preview --timers TUNER FILE      writes a preview page's timers for a sheet, TUNER 0 to 3, as preview.d/smallest.page
+       ./preview --timers TUNER < FILE    the same from standard input
+";
+    let file = TIMERS.example;
+    ends(TIMERS, &format!("./it {file} {file}"), 2, "", usage);
+    for tuner in ["", "4", "-1", "01", "''", "one", "2."] {
+        ends(TIMERS, &format!("./preview --timers {tuner} {file}"), 2, "", usage);
+        ends(TIMERS, &format!("./preview --timers {tuner} <{file}"), 2, "", usage);
     }
 }
 
@@ -103,7 +130,9 @@ fn a_full_disc() {
     for it in PROGRAMS {
         let said = output(it, "No space left on device");
         ends(it, &format!("./it {} >/dev/full", it.example), 1, "", &said);
-        ends(it, r"tr '\0' '\377' </dev/zero | ./it >/dev/full", 1, "", &said);
+        // where nothing would be printed the disc may be full
+        let refused = (it.said)(&[it.before, &[0xFF; DECIDING]].concat());
+        ends(it, r"tr '\0' '\377' </dev/zero | ./it >/dev/full", 1, "", if refused.is_empty() { &said } else { &refused });
     }
 }
 

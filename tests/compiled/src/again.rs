@@ -4,7 +4,8 @@
 //!
 //! Standard input has the sheets, each behind four numbers of four bytes: how much one read gives at most, how many reads are
 //! interrupted before each one that is not, the error of the read at the sheet's end, which is 0 where there is none, and the sheet's
-//! length. Standard output has what each prints, and after it a line with the status of its process.
+//! length. Standard output has what each prints, and after it a line with the status of its process, both behind their length, which
+//! is four bytes too: what is printed may be any bytes.
 use std::fs::File;
 use std::io::{BufReader, Read, Seek, Write};
 use std::os::raw::{c_char, c_int, c_long, c_uint, c_void};
@@ -90,24 +91,27 @@ unsafe fn failed(error: c_int) -> isize {
 extern "C" fn play_each(argc: c_int, argv: Words, env: Words) -> c_int {
     let program = unsafe { PROGRAM.unwrap() };
     let play = || program(argc, argv, env);
-    let (mut sheets, out) = (BufReader::new(duplicate(0)), duplicate(1));
+    let (mut sheets, out, errors) = (BufReader::new(duplicate(0)), duplicate(1), duplicate(2));
     let nowhere = File::create("/dev/null").unwrap();
     let mut played = 0;
     while let Some((reads, bytes)) = next(&mut sheets) {
-        let mut sheet = file_of(&bytes);
+        let (mut sheet, printed) = (file_of(&bytes), file_of(&[]));
         put(&sheet, 0);
+        put(&printed, 1);
         let ended = in_a_process(|| {
             unsafe { (READS, NEXT_INTERRUPTED) = (reads, reads.interrupted) };
-            say(&out, play());
+            say(&printed, play());
         });
         if ended != KILLED {
-            say(&out, ended);
+            say(&printed, ended);
         } else if played < FIRST {
             sheet.rewind().unwrap();
             put(&nowhere, 1);
+            put(&nowhere, 2);
             say(&nowhere, play());
-            put(&out, 1);
+            put(&errors, 2);
         }
+        hand_over(printed, &out);
         played += 1;
     }
     0
@@ -147,6 +151,15 @@ fn put(file: &File, number: c_int) {
 /// The line with a status.
 fn say(mut out: &File, status: c_int) {
     out.write_all(format!("= {status}\n").as_bytes()).unwrap();
+}
+
+/// All that a file has, behind its length.
+fn hand_over(mut from: File, mut to: &File) {
+    let mut bytes = Vec::new();
+    from.rewind().unwrap();
+    from.read_to_end(&mut bytes).unwrap();
+    to.write_all(&(bytes.len() as u32).to_be_bytes()).unwrap();
+    to.write_all(&bytes).unwrap();
 }
 
 /// Does some work in a process of its own, which is killed when it is done: at an exit the emulator clears all that it has

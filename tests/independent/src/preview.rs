@@ -8,6 +8,7 @@ pub mod print;
 pub mod reader;
 pub mod timers;
 pub mod title;
+pub mod to_record;
 pub mod wrong;
 
 pub use print::print;

@@ -20,16 +20,20 @@ pub fn timers_section(timers: &[Timer]) -> Vec<u8> {
     section
 }
 
+/// And those of one of packets.
+pub fn packets_section(packets: &[Packet]) -> Vec<u8> {
+    let mut section = (packets.len() as u16).to_be_bytes().to_vec();
+    for (time, tuner, packet) in packets {
+        section.extend(time.to_be_bytes());
+        section.push(*tuner);
+        section.extend(packet);
+    }
+    section
+}
+
 /// The bytes of whole sections, with these counts.
 pub fn bytes(timers: &[Timer], packets: &[Packet]) -> Vec<u8> {
-    let mut sheet = timers_section(timers);
-    sheet.extend((packets.len() as u16).to_be_bytes());
-    for (time, tuner, packet) in packets {
-        sheet.extend(time.to_be_bytes());
-        sheet.push(*tuner);
-        sheet.extend(packet);
-    }
-    sheet
+    [timers_section(timers), packets_section(packets)].concat()
 }
 
 fn sections(r: &mut Random, scene: &mut Scene, length: u64) -> (Vec<Timer>, Vec<Packet>) {

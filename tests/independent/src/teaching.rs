@@ -30,7 +30,7 @@ const OPENS: u32 = 80_006_400;
 const CLOSES: u32 = 80_107_200;
 /// Day 0, month 15, minute 63, and the hour.
 const TIMER_CONTROL: u32 = 15 << 11 | 31 << 6 | 63;
-const RIT: u32 = 15 << 11 | 30 << 6 | 63;
+pub(crate) const RIT: u32 = 15 << 11 | 30 << 6 | 63;
 /// A programme that no timer waits for.
 const OTHER: u32 = PIL + 5;
 
@@ -47,7 +47,7 @@ fn timer(tuner: u8, length: u16) -> Timer {
     Timer { cni: CNI, pil: PIL, year: YEAR, tuner, length }
 }
 
-fn written(label: Label) -> Vec<u8> {
+pub(crate) fn written(label: Label) -> Vec<u8> {
     let mut packet = vec![0x15; 9];
     packet.resize(42, 0x20);
     assert_eq!(paper::write(&label, &mut packet), 0);

@@ -3,9 +3,10 @@
 //! `preview.d/` are what they say.
 use independent::preview::wrong::reading::Fault::{self, *};
 use independent::preview::wrong::{making, printing, reading};
-use independent::preview::{examples, print, read, timers, to_fields};
+use independent::preview::{examples, print, read, timers, to_fields, to_record};
 use independent::previews::{self, PREVIEWS};
 use independent::random::Random;
+use independent::sheet;
 use made::Made;
 use seen::Seen;
 use std::{fs, path::Path};
@@ -131,6 +132,7 @@ const LESSONS: &[(&str, &[Fault])] = &[
     ("not_recorded", &[NotRecordedRefused, NotRecordedLeftOut, NotRecordedAsOne]),
     ("offsets", &[OffsetWhole, OffsetSignLost, OffsetTurned, NineHundredRefused, OffsetOnce, SignNotCounted]),
     ("moved", &[OriginalIsStart]),
+    ("to_record", &[OriginalIsStart, NotRecordedRefused, NotRecordedLeftOut, NotRecordedAsOne]),
     ("leap_day", &[LeapNever, LeapNotNought]),
     ("twenty_four", &[TwentyAtMost, TwentyThreeGiven, SumNotCut, HeaderLeftOut, LastRowLeftOut]),
     ("refused_23", &[ShortTaken]),
@@ -153,5 +155,19 @@ fn what_each_lesson_shows() {
         for &fault in *faults {
             assert_ne!(reading::read(page, Some(fault)), read(page), "{name} {fault:?}");
         }
+    }
+}
+
+/// What is recorded in the evening shows these, which are made into timers otherwise.
+#[test]
+fn what_the_evening_shows() {
+    use making::Fault::*;
+    let page = stored("to_record.page");
+    let played = |section: Vec<u8>| sheet::play(&[section, to_record::packets()].concat());
+    let right = timers(to_record::TUNER, &page).unwrap();
+    assert_eq!(played(right), String::from_utf8(stored("to_record.played")).unwrap());
+    for fault in [TimerOfAll, CountOfAll, PilOfStart, MonthFirst, NetworkLowFirst, LengthLowFirst] {
+        let wrong = making::timers(to_record::TUNER, &page, Some(fault)).unwrap();
+        assert_ne!(played(wrong), sheet::play(&to_record::sheet()), "{fault:?}");
     }
 }

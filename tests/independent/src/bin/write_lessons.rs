@@ -1,6 +1,7 @@
 //! Writes the sheets of `sheets/` and the pages of `pages.d/` and `preview.d/`, with what the independent side prints for each:
 //! `tools/cargo --own run --manifest-path tests/independent/Cargo.toml`.
 use independent::examples::Example;
+use independent::preview::to_record;
 use independent::{aerial, examples, preselection, preview, sheet, teaching};
 use std::{fs, path::Path};
 
@@ -46,6 +47,21 @@ given. `Z` and the count of programmes close a page. A refused page is `R` and i
 |---|---|
 ";
 
+const TO_RECORD: &str = "
+## From a page to recordings
+
+`to_record.packets` is a section of packets for a sheet, to be played behind the timers of `to_record.page`, and `to_record.played` is what
+`./play` then prints; what is sent is written out in `tests/independent/src/preview/to_record.rs`. `./preview --timers 0
+preview.d/to_record.page` writes the timers, all with home tuner 0; the home tuner is the operator's choice, from 0 to 3.
+
+The page has four programmes of 15 July 2002, and three timers: `T 0` the weather, 19:58 to 20:00; `T 1` the film, which was to begin at
+20:15, and is announced for 20:16 to 21:45; `T 2` the concert, 21:45 to 22:30. The news, at 20:00, is not to be recorded. Then comes a line
+`P answer live` for each packet, live being how many timers are recorded after it, and `Z 0` at the end, where none is:
+
+| packets | line | what happens |
+|---|---|---|
+";
+
 /// Writes the files of a directory at the top, and its page behind these lines.
 fn directory(name: &str, head: &str, rows: Vec<(&str, &str)>, files: Vec<(String, Vec<u8>)>) {
     let dir = Path::new(env!("CARGO_MANIFEST_DIR")).join("../..").join(name);
@@ -77,8 +93,18 @@ fn stored(name: &str, head: &str, examples: Vec<Example>, print: fn(&[u8]) -> St
     directory(name, head, examples.iter().map(|example| (example.name, example.line)).collect(), files);
 }
 
+/// What is sent in the evening of one of the preview pages, and what is played of it; told below the table of the pages.
+fn recorded() {
+    let dir = Path::new(env!("CARGO_MANIFEST_DIR")).join("../../preview.d");
+    fs::write(dir.join("to_record.packets"), to_record::packets()).unwrap();
+    fs::write(dir.join("to_record.played"), sheet::play(&to_record::sheet())).unwrap();
+    let page = fs::read_to_string(dir.join("README.md")).unwrap();
+    fs::write(dir.join("README.md"), page + TO_RECORD + &to_record::rows()).unwrap();
+}
+
 fn main() {
     sheets();
     stored("pages.d", PAGES, examples::examples(), preselection::print);
     stored("preview.d", PREVIEWS, preview::examples::examples(), preview::print);
+    recorded();
 }

@@ -168,6 +168,12 @@ fn of_values() -> Vec<Example> {
             "A programme that was moved is shown at its new time, and keeps the original time that its label is made from.",
             moved(),
         ),
+        example(
+            "to_record",
+            "An evening to be recorded, with packets to play behind its timers, which is told below: four programmes, one of them not to \
+             be recorded and one moved by a minute.",
+            to_record(),
+        ),
         example("leap_day", "Every fourth year has a 29 February, and 00 is one of them.", leap_day()),
         example(
             "twenty_four",
@@ -367,6 +373,18 @@ fn moved() -> Vec<u8> {
     ])
 }
 
+/// `to_record.rs` has what is sent in the evening.
+fn to_record() -> Vec<u8> {
+    page(&[
+        ":%1D101%150702%86+",
+        "+19.58:%1958++Wetter",
+        "+20.00:%2500++Tagesschau",
+        "+20.16:%2015++K|nig der Berge",
+        "+21.45:%2145++Konzert",
+        "+22.30+",
+    ])
+}
+
 fn leap_day() -> Vec<u8> {
     page(&[":%1D101%290200%2000%24+", "+20.00++X", "+21.00+"])
 }
@@ -460,6 +478,7 @@ mod tests {
         assert_eq!(times("midnight"), [(22, 23, 22), (23, 0, 23), (0, 0, 0), (0, 0, 0)]);
         assert_eq!(times("not_recorded"), [(20, 20, 20), (20, 21, 25), (21, 23, 21)]);
         assert_eq!(times("moved"), [(20, 20, 20), (20, 22, 20), (22, 23, 21)]);
+        assert_eq!(times("to_record"), [(19, 20, 19), (20, 20, 25), (20, 21, 20), (21, 22, 21)]);
         let values = |name: &str| given(name).iter().map(|p| (p.network, p.day, p.offset, p.pty)).collect::<Vec<_>>();
         let carried = [(0x1D65, 15, 4, 0x81), (0x1D65, 15, 4, 0), (0x1D66, 15, 4, 0x8B), (0x1D66, 16, 4, 0)];
         assert_eq!(values("carried_on"), carried);
