@@ -1,4 +1,5 @@
 -- The laws of the words that every layer uses.
+use Prim.Native.Nat.{min}
 use mathlib.Core.List.{[], _∷_}
 use Rattle.answer.specs.Bytes.{numberOf}
 use Rattle.answer.specs.Laws.{Laws}
@@ -11,4 +12,5 @@ laws = record {
   triple-unique = λ a b c. equation (numberOf (a ∷ b ∷ c ∷ []));
   four-unique = λ a b c d. equation (numberOf (a ∷ b ∷ c ∷ d ∷ []));
   digit-unique = λ n. equation (digit n);
+  least-unique = λ m n. equation (min m n);
 }

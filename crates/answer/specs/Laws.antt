@@ -1,5 +1,5 @@
 -- What is claimed of the words that every layer uses. Proved in proofs/Proved.antt.
-use Prim.Native.Nat.{ℕ}
+use Prim.Native.Nat.{ℕ, min}
 use mathlib.Core.Path.{_≡_}
 use mathlib.Core.List.{[], _∷_}
 use Rattle.answer.specs.Answer.{Unique}
@@ -12,3 +12,4 @@ pub record Laws : Type 0 where
   pub triple-unique : (a b c : ℕ) → Unique (λ r. r ≡ numberOf (a ∷ b ∷ c ∷ []))
   pub four-unique : (a b c d : ℕ) → Unique (λ r. r ≡ numberOf (a ∷ b ∷ c ∷ d ∷ []))
   pub digit-unique : (n : ℕ) → Unique (λ r. r ≡ digit n)
+  pub least-unique : (m n : ℕ) → Unique (λ r. r ≡ min m n)

@@ -1,4 +1,5 @@
-// The words that every layer uses: what a call answers, in specs/, numbers out of bytes, and digits.
+// The words that every layer uses: what a call answers, in specs/, numbers out of bytes, digits, and the lesser of two numbers.
+ghost use Prim.Native.Nat.{min};
 ghost use mathlib.Core.Bool.{true};
 ghost use mathlib.Core.List.{[], _∷_};
 ghost use mathlib.Core.Path.{_≡_};
@@ -30,6 +31,15 @@ pub fn digit(n: usize) -> u8
     ensures { λ r. ⌜ r ≡ digit n ⌝ }
 {
     (48 + n % 10) as u8
+}
+
+pub fn least(m: usize, n: usize) -> usize
+    ensures { λ r. ⌜ r ≡ min m n ⌝ }
+{
+    if m < n {
+        return m;
+    }
+    n
 }
 
 // The laws of these words, as a promise of the crate.

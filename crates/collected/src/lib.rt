@@ -1,11 +1,11 @@
 // A preview page's bytes collected, however they arrive in pieces, and read.
-ghost use Prim.Native.Nat.{min};
 ghost use mathlib.Core.Bool.{true};
 ghost use mathlib.Core.Path.{_≡_};
 ghost use lib.ListN.{take};
 ghost use Rattle.preview.specs.Taken.{ReadAs};
 ghost use Rattle.collected.specs.Collected.{heldIn, held, blank, afterPiece, isFull};
 ghost use Rattle.collected.specs.Laws.{Laws};
+use answer::least;
 use preview::Reading;
 
 // A byte more than a page has: what follows it decides nothing.
@@ -15,15 +15,6 @@ const DECIDING: usize = 961;
 pub struct Collected {
     pub length: usize,
     pub bytes: [u8; 961],
-}
-
-fn least(m: usize, n: usize) -> usize
-    ensures { λ r. ⌜ r ≡ min m n ⌝ }
-{
-    if m < n {
-        return m;
-    }
-    n
 }
 
 fn read_first(bytes: [u8; 961], n: usize) -> Reading

@@ -1,5 +1,5 @@
 // A page fed piece by piece, and its listing reported.
-ghost use Prim.Native.Nat.{_≤_, min};
+ghost use Prim.Native.Nat.{_≤_};
 ghost use mathlib.Core.Path.{_≡_};
 ghost use mathlib.Core.List.{_++_};
 ghost use lib.ListN.{length, take};
@@ -11,6 +11,7 @@ use crate::Collected;
 use crate::lines::count_line;
 use crate::lines::programme_line;
 use crate::lines::refusal_line;
+use answer::least;
 use programmes::Programme;
 use programmes::Reading;
 
@@ -22,15 +23,6 @@ const MOST: usize = 103;
 
 // No listing is longer.
 const LONGEST: usize = 5568;
-
-fn least(m: usize, n: usize) -> usize
-    ensures { λ r. ⌜ r ≡ min m n ⌝ }
-{
-    if m < n {
-        return m;
-    }
-    n
-}
 
 // 'For each programme .. then `Z count`.'
 fn put_page(out: &mut [u8], programmes: [Programme; 103], count: usize) -> usize

@@ -51,10 +51,12 @@ pub(crate) fn take_row(bytes: &[u8], r: usize, table: Table) -> Table
         let v = found.value;
         let text = rows::is_text(v);
         let titled = x.titled(pair, text);
-        let given = given_out(t, row, x.column, titled, text, found);
-        let coded = given.coded(c);
-        t = coded;
         let next = x.next(c, p as u8, pair, text);
+        // Most codes give nothing out, and then the table is not copied.
+        if titled | (!text | (127 < c)) {
+            let given = given_out(t, row, x.column, titled, text, found);
+            t = given.coded(c);
+        }
         x = next;
         p += 1;
     }

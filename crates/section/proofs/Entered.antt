@@ -60,7 +60,9 @@ entered-timed bs tuner b =
 
 entered-more : (bs : List Booked) (tuner : ℕ) (t : Timer) → entered tuner (bs ++ ontoTimers t []) ≡ afterTimer tuner (entered tuner bs) t
 unfolding afterTimer
-entered-more bs tuner NotRecorded = rw (append-nil bs) refl
+entered-more bs tuner NotRecorded =
+    let none : bs ++ ontoTimers NotRecorded [] ≡ bs = append-nil bs in
+    rw none refl
 entered-more bs tuner (Timed b) = entered-timed bs tuner b
 
 timers-more : (qs : List Programme) (q : Programme) → timersOf (qs ++ (q ∷ [])) ≡ timersOf qs ++ ontoTimers (timerOf q) []
@@ -113,12 +115,16 @@ all-entered qs tuner count i l e =
 
 -- all of them, with their count
 pub all-counted : (tuner : ℕ) (qs : List Programme) → counted (entered tuner (timersOf qs)) ≡ sectionBy tuner (given qs)
-unfolding counted entered
-all-counted tuner qs = rw (section-length tuner (timersOf qs), first-place tuner (timersOf qs)) refl
+unfolding counted entered sectionOf
+all-counted tuner qs =
+    let text : written tuner (given qs) ≡ length (timersOf qs) ∷ entriesOf tuner (timersOf qs) = refl in
+    rw (section-length tuner (timersOf qs), first-place tuner (timersOf qs)) refl
 
 -- they find room
 pub few-bytes : (tuner : ℕ) (a : Answer (List Programme)) → Sound a → length (written tuner a) ≤ longest
-few-bytes tuner (refused n) s = omega arith
+few-bytes tuner (refused n) s =
+    let none : length (written tuner (refused n)) ≡ 0 = refl in
+    omega (arith, none)
 few-bytes tuner (given qs) s = omega (arith, section-length tuner (timersOf qs), few-timers qs)
 
 -- a page as the reader gives it

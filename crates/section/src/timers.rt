@@ -1,5 +1,5 @@
 // A page's timers as the entries of a sheet, one after the other.
-ghost use Prim.Native.Nat.{_+_, _<_, _≤_, min};
+ghost use Prim.Native.Nat.{_+_, _<_, _≤_};
 ghost use mathlib.Core.Path.{_≡_};
 ghost use lib.ListN.{take};
 ghost use lib.Seq.{sets};
@@ -8,6 +8,7 @@ ghost use Rattle.section.specs.Section.{entryOf, timersOf};
 ghost use Rattle.section.specs.Taken.{entered, afterTimer, counted, sectionRead};
 use crate::Entries;
 use crate::Section;
+use answer::least;
 use booked::Booked;
 use booked::Timer;
 use preview::Programme;
@@ -15,15 +16,6 @@ use preview::Reading;
 
 // No page has more programmes.
 const MOST: usize = 24;
-
-fn least(m: usize, n: usize) -> usize
-    ensures { λ r. ⌜ r ≡ min m n ⌝ }
-{
-    if m < n {
-        return m;
-    }
-    n
-}
 
 // 'CNI 2, PIL 3, year 1', tuner and length.
 fn entry(tuner: u8, b: Booked) -> [u8; 9]

@@ -1,5 +1,5 @@
 // The lines of a page, one after the other.
-ghost use Prim.Native.Nat.{_≤_, min};
+ghost use Prim.Native.Nat.{_≤_};
 ghost use mathlib.Core.Path.{_≡_};
 ghost use mathlib.Core.List.{_++_};
 ghost use lib.ListN.{length, take};
@@ -10,20 +10,12 @@ ghost use Rattle.view.specs.Reported.{longest, readLines};
 use crate::lines::count_line;
 use crate::lines::programme_line;
 use crate::lines::refusal_line;
+use answer::least;
 use preview::Programme;
 use preview::Reading;
 
 // No page has more programmes.
 const MOST: usize = 24;
-
-fn least(m: usize, n: usize) -> usize
-    ensures { λ r. ⌜ r ≡ min m n ⌝ }
-{
-    if m < n {
-        return m;
-    }
-    n
-}
 
 // 'For each programme .. then `Z count`.'
 fn put_page(out: &mut [u8], programmes: [Programme; 24], count: usize) -> usize

@@ -16,7 +16,9 @@ abbrev μ-loop : tie.MeasureT-loop
 μ-loop bytes t₀ r₀ t r = 24 - r
 
 returns : tie.Need-returns Inv-loop μ-loop
-returns c = (refused-as _ (c .refused .ensures) (answer-23 _ (c .before .if1 .taken)), refl)
+returns c =
+    let page = c .before .before .before .args .bytes .now in
+    (refused-as _ (c .refused .ensures) (answer-23 page (c .before .if1 .taken)), refl)
 
 loop-holds : tie.Need-loop-holds Inv-loop μ-loop
 loop-holds c = (omega arith, c .new .ensures ∙ none-held _)

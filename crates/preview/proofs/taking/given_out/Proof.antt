@@ -13,7 +13,8 @@ unfolding withGivenOut
 returns c =
     let a = c .before .before .args in
     let behind : a .column + 2 ≡ 2 + a .column = omega arith in
-    let given : c .titled .result ≡ titledAt (a .t) (a .row) (2 + a .column) = c .titled .ensures ∙ ap (titledAt (a .t) (a .row)) behind in
+    let told : c .titled .result ≡ titledAt (a .t) (a .row) (a .column + 2) = c .titled .ensures in
+    let given : c .titled .result ≡ titledAt (a .t) (a .row) (2 + a .column) = told ∙ ap (titledAt (a .t) (a .row)) behind in
     rw (given, c .before .if1 .taken) refl
 
 returns-2 : tie.Need-returns-2

@@ -1,5 +1,6 @@
 -- `counted`: the count at the first place.
 use borrow.Author.Needs.{needs}
+use mathlib.Core.Path.{refl}
 use Rattle.section.specs.Taken.{counted}
 use Rattle.section.proofs.timers.counted.Statement.{statement}
 use Rattle.section.proofs.timers.counted.Tie as tie
@@ -18,7 +19,7 @@ add-t8 c = search needs
 
 returns : tie.Need-returns
 unfolding counted
-returns c = search needs
+returns c = refl
 
 pub counted-spec : {M : Type 1} → statement M
 counted-spec = tie.close (tie.spec cast-bytes array-write-bytes mul-t7 add-t8 returns)

@@ -1,5 +1,6 @@
 -- `entry`: each byte is what its part of the definition says.
 use borrow.Author.Needs.{needs}
+use mathlib.Core.Path.{refl}
 use Rattle.section.specs.Section.{entryOf}
 use Rattle.section.proofs.timers.entry.Statement.{statement}
 use Rattle.section.proofs.timers.entry.Tie as tie
@@ -27,7 +28,7 @@ cast-t21 c = search needs
 
 returns : tie.Need-returns
 unfolding entryOf
-returns c = search needs
+returns c = refl
 
 pub entry-spec : {M : Type 1} → statement M
 entry-spec =
