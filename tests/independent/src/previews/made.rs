@@ -410,11 +410,11 @@ fn set(r: &mut Random, style: &Style, count: usize, slips: bool) -> Option<Made>
     Some(Made { page: lines.into_iter().flat_map(|(_, line)| line.codes).collect(), programmes })
 }
 
-/// A page of some programmes, or of as many as it has room for.
+/// A page of some programmes, or of many, and often as many as it has room for.
 pub fn made(r: &mut Random) -> Made {
-    let full = r.once_in(24);
-    let wanted = if full { one(r, &[18, 20, 21, 22, 23, 24, 24, 24]) } else { 1 + r.below(6) };
-    let style = if full { Style::dense(r) } else { Style::new(r) };
+    let many = r.once_in(24);
+    let wanted = if many { 7 + r.below(22).min(17) } else { 1 + r.below(6) };
+    let style = if many { Style::dense(r) } else { Style::new(r) };
     let mut counts = (1..=wanted as usize).rev();
     loop {
         if let Some(made) = set(r, &style, counts.next().unwrap_or(1), false) {
