@@ -1,4 +1,6 @@
 // Tells how bad each aerial is: standard input in large pieces through `tally`, and its report to standard output.
+#![tactic(auto)]
+
 ghost use Rattle.std.specs.Prelude.{◌≤◌, ◌≡◌, length};
 ghost use Rattle.std.proofs.lemmas.List.Edits.{sets};
 ghost use Rattle.report.specs.Room.{longest};
@@ -14,7 +16,7 @@ fn reported(tally: Tally, ended: bool, out: &mut [u8]) -> usize
     tally.report(ended, out)
 }
 
-#[derive(Drop)]
+#[derive(Clone, Copy)]
 struct Turn {
     got: usize,
     ended: bool,

@@ -2,7 +2,7 @@
 // here: the desk selects by CNI and PIL.
 use crate::rows::{DECEMBER, JULY, OCTOBER, OFF};
 
-#[derive(Drop)]
+#[derive(Clone, Copy)]
 pub(crate) struct Sequence {
     pub(crate) number: u8,
     pub(crate) month: u8,

@@ -1,5 +1,7 @@
 // Plays the sequences of EN 300 231, Annex E, on the label desk, and prints what the desk says of each recorder at each
 // logged time.
+#![tactic(auto)]
+
 mod events; // what the recorders are programmed with
 mod line; // one line of print
 mod numbers; // from the tables' numbers to seconds and labels

@@ -7,7 +7,7 @@ pub(crate) const OCTOBER: u8 = 10;
 pub(crate) const DECEMBER: u8 = 12;
 
 // A time, and the label of each label channel from then on.
-#[derive(Drop)]
+#[derive(Clone, Copy)]
 pub(crate) struct Row(pub u32, pub [u32; 4]);
 
 // One day, in a time.

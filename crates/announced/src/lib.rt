@@ -1,4 +1,6 @@
 // Times and titles of a preview page, in page order: the programmes that they announce.
+#![tactic(auto)]
+
 ghost use Rattle.std.specs.Prelude.{true, ◌≡◌};
 ghost use Rattle.announced.specs.Times.{marks_of};
 ghost use Rattle.announced.specs.Taken.{after_single, after_double, after_title, by_time, by_title, may_end, stage_from, announced_from, told_of};
@@ -6,14 +8,14 @@ ghost use Rattle.announced.specs.Laws.{Laws};
 
 use figures::Value;
 
-#[derive(Drop)]
+#[derive(Clone, Copy)]
 pub struct Time {
     pub hour: u8,
     pub minute: u8,
 }
 
 // A programme's title place, its start and its finish.
-#[derive(Drop)]
+#[derive(Clone, Copy)]
 pub struct Announcement {
     pub row: u8,
     pub column: u8,
@@ -23,7 +25,7 @@ pub struct Announcement {
 
 // What has come last: nothing; a single time, which may be the last finish or not; it and its title's place; a double time; it and its
 // title; or what no page may have.
-#[derive(Drop)]
+#[derive(Clone, Copy)]
 pub enum Stage {
     First,
     Single(Time, bool),
@@ -34,7 +36,7 @@ pub enum Stage {
 }
 
 // A programme that is complete with a time or a title, or none.
-#[derive(Drop)]
+#[derive(Clone, Copy)]
 pub enum Told {
     Nothing,
     Announced(Announcement),

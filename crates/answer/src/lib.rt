@@ -1,4 +1,6 @@
 // The words that every layer uses: what a call answers, in specs/, numbers out of bytes, digits, and the lesser of two numbers.
+#![tactic(auto)]
+
 ghost use Rattle.std.specs.Prelude.{min, true, [], ◌∷◌, ◌≡◌};
 ghost use Rattle.answer.specs.Bytes.{number_of};
 ghost use Rattle.answer.specs.Laws.{Laws};

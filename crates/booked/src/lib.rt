@@ -1,4 +1,6 @@
 // From a programme of a preview page to a timer.
+#![tactic(auto)]
+
 ghost use Rattle.std.specs.Prelude.{true, ◌≡◌};
 ghost use Rattle.booked.specs.Timer.{minutes_of, length_of, pil_of, timer_of};
 ghost use Rattle.booked.specs.Laws.{Laws};
@@ -7,7 +9,7 @@ use announced::Time;
 use preview::Programme;
 
 // What a timer is added with: the year is that of 2000 to 2099, the length is in minutes.
-#[derive(Drop)]
+#[derive(Clone, Copy)]
 pub struct Booked {
     pub pil: u32,
     pub cni: u16,
@@ -16,7 +18,7 @@ pub struct Booked {
 }
 
 // An item not worth recording has no timer.
-#[derive(Drop)]
+#[derive(Clone, Copy)]
 pub enum Timer {
     NotRecorded,
     Timed(Booked),

@@ -1,4 +1,6 @@
 // When the window of a PIL opens and closes (EN 300 231, clause 9.3), and the second that it announces.
+#![tactic(auto)]
+
 ghost use Rattle.std.specs.Prelude.{true, ◌≡◌};
 ghost use Rattle.calendar.specs.Calendar.{real_in, opening, closing, announced_at, validity_answer, window_in};
 ghost use Rattle.calendar.specs.Laws.{Laws};
@@ -8,14 +10,14 @@ use label::pil::parts;
 mod days; // leap years, month lengths, the days of the clock
 
 // From the second `opens` up to, not including, the second `closes`.
-#[derive(Drop)]
+#[derive(Clone, Copy)]
 pub struct Window {
     pub opens: u32,
     pub closes: u32,
 }
 
 // The window of a PIL in a year, or refusal 11.
-#[derive(Drop)]
+#[derive(Clone, Copy)]
 pub enum Validity {
     Refused,
     Given(Window),

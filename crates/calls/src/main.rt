@@ -1,5 +1,7 @@
 // Answers rows of calls, for tests that hold the compiled desk to another: a sheet neither waits, asks nor cancels. Each row of 128
 // bytes on standard input is a call, and 40 bytes on standard output answer it.
+#![tactic(auto)]
+
 mod answers; // what a call says, and every slot after it
 mod rows; // the call that a row is
 

@@ -7,7 +7,7 @@ use desk::Desk;
 use reply::{AddAnswer, WaitAnswer};
 
 // What a call says: the number of its refusal or 0, and what it gives.
-#[derive(Drop)]
+#[derive(Clone, Copy)]
 pub(crate) struct Said {
     pub(crate) number: u8,
     pub(crate) value: u32,

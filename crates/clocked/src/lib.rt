@@ -1,4 +1,6 @@
 // When the labels fail: the seconds at which a timer is recorded by the clock.
+#![tactic(auto)]
+
 ghost use Rattle.std.specs.Prelude.{true, ◌≡◌};
 ghost use Rattle.clocked.specs.Clocked.{out_of_range, in_length, on_time};
 ghost use Rattle.clocked.specs.Laws.{Laws};

@@ -1,4 +1,6 @@
 // The codes of a preview page: what each is, and the colour in force.
+#![tactic(auto)]
+
 ghost use Rattle.std.specs.Prelude.{true, ◌≡◌};
 ghost use Rattle.codes.specs.Codes.{is_colour, is_decimal, is_hexadecimal, figure, is_graphics, is_mark, is_pair, colour_by};
 ghost use Rattle.codes.specs.Laws.{Laws};
@@ -10,7 +12,7 @@ pub const MAGENTA: u8 = 5;
 pub const CONCEAL: u8 = 27;
 
 // The colour in force; all colours but magenta are plain.
-#[derive(Drop)]
+#[derive(Clone, Copy)]
 pub enum Colour {
     Plain,
     Magenta,

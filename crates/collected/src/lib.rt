@@ -1,4 +1,6 @@
 // A preview page's bytes collected, however they arrive in pieces, and read.
+#![tactic(auto)]
+
 ghost use Rattle.std.specs.Prelude.{true, ◌≡◌, take};
 ghost use Rattle.preview.specs.Taken.{ReadAs};
 ghost use Rattle.collected.specs.Collected.{held_in, held, blank, after_piece, is_full};
@@ -11,7 +13,7 @@ use preview::Reading;
 const DECIDING: usize = 961;
 
 // A page as far as it has arrived: its first bytes, one more than a page has, and how many there are.
-#[derive(Drop)]
+#[derive(Clone, Copy)]
 pub struct Collected {
     pub length: usize,
     pub bytes: [u8; 961],

@@ -1,4 +1,6 @@
 // The label desk of four tuners and sixteen timers: its state and its calls.
+#![tactic(auto)]
+
 mod asking; // one slot, and how many are live
 mod hearing; // packets and labels
 mod moments; // seconds, waits, and the moment that every accepted call ends in
@@ -13,7 +15,7 @@ use reply::{AddAnswer, CancelAnswer, PacketAnswer, SecondAnswer, WaitAnswer};
 use rule::Timer;
 
 // `live` is how many timers are live: each moment counts them, so that reading it looks at no slot.
-#[derive(Drop)]
+#[derive(Clone, Copy)]
 pub struct Desk {
     pub clock: u32,
     pub live: u32,
@@ -21,31 +23,31 @@ pub struct Desk {
     pub timers: [Timer; 16],
 }
 
-#[derive(Drop)]
+#[derive(Clone, Copy)]
 pub struct Heard {
     pub answer: PacketAnswer,
     pub desk: Desk,
 }
 
-#[derive(Drop)]
+#[derive(Clone, Copy)]
 pub struct Waited {
     pub answer: WaitAnswer,
     pub desk: Desk,
 }
 
-#[derive(Drop)]
+#[derive(Clone, Copy)]
 pub struct Added {
     pub answer: AddAnswer,
     pub desk: Desk,
 }
 
-#[derive(Drop)]
+#[derive(Clone, Copy)]
 pub struct Cancelled {
     pub answer: CancelAnswer,
     pub desk: Desk,
 }
 
-#[derive(Drop)]
+#[derive(Clone, Copy)]
 pub struct Passed {
     pub answer: SecondAnswer,
     pub desk: Desk,

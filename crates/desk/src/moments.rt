@@ -15,7 +15,7 @@ use sixteen::slots::{all_next, any_by_labels, no_timer};
 pub(crate) const CLOCK_END: u32 = 3155774400;
 
 // The desk that the passing of seconds leaves, and how many were walked.
-#[derive(Drop)]
+#[derive(Clone, Copy)]
 pub(crate) struct Pass {
     pub(crate) walked: u32,
     pub(crate) desk: Desk,

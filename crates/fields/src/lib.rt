@@ -1,4 +1,6 @@
 // A page's programmes as plain bytes, for callers in another language. None of the calls asks anything of its caller.
+#![tactic(auto)]
+
 ghost use Rattle.std.specs.Prelude.{◌≤◌, true, ◌∷◌, ◌≡◌, length, get_or};
 ghost use Rattle.answer.specs.Answer.{number, after};
 ghost use Rattle.fields.specs.Fields.{bytes_of, programmes_to, plain, page_into, page_from, packets_told, bytes_left, pil_from};

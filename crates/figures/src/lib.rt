@@ -1,4 +1,6 @@
 // What the figures of a format mean, and whether they are permitted.
+#![tactic(auto)]
+
 ghost use Rattle.std.specs.Prelude.{true, ◌≡◌};
 ghost use Rattle.figures.specs.Taken.{found_from};
 ghost use Rattle.figures.specs.Laws.{Laws};
@@ -8,14 +10,14 @@ use formats::Start;
 mod meaning; // what a format's figures mean
 
 // 'The offset is a signed count of quarter hours.'
-#[derive(Drop)]
+#[derive(Clone, Copy)]
 pub enum Offset {
     Plus(u8),
     Minus(u8),
 }
 
 // What a format tells: hours and minutes, a day, month and year, a number, or that its figures are not permitted.
-#[derive(Drop)]
+#[derive(Clone, Copy)]
 pub enum Value {
     Text,
     Wrong,
@@ -30,7 +32,7 @@ pub enum Value {
 }
 
 // A format's value, and what its figures add to the page's sum.
-#[derive(Drop)]
+#[derive(Clone, Copy)]
 pub struct Found {
     pub value: Value,
     pub sum: u8,

@@ -1,4 +1,6 @@
 // The figure formats of a preview page: what starts one, and which format codes are.
+#![tactic(auto)]
+
 ghost use Rattle.std.specs.Prelude.{true, ◌≡◌};
 ghost use Rattle.formats.specs.Formats.{start_of, concealed_in};
 ghost use Rattle.formats.specs.Taken.{kind_from};
@@ -9,7 +11,7 @@ use codes::Colour;
 mod format; // what so many codes can only be, and whether they show it
 
 // What stands directly before figures: a colour, `%` in plain, magenta, `%` in magenta, or nothing that starts a format.
-#[derive(Drop)]
+#[derive(Clone, Copy)]
 pub enum Start {
     Nothing,
     Colour,
@@ -19,7 +21,7 @@ pub enum Start {
 }
 
 // What a place of a format shows.
-#[derive(Drop)]
+#[derive(Clone, Copy)]
 pub enum Sign {
     Decimal,
     Hexadecimal,
@@ -30,7 +32,7 @@ pub enum Sign {
 }
 
 // The formats of table 5 but the title's, and what is none.
-#[derive(Drop)]
+#[derive(Clone, Copy)]
 pub enum Kind {
     Text,
     Single,

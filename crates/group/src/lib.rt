@@ -1,4 +1,6 @@
 // One triplet of preselection: its eighteen bits, and the data group that they are.
+#![tactic(auto)]
+
 ghost use Rattle.std.specs.Prelude.{true, ◌≡◌, ◌<◌};
 ghost use Rattle.group.specs.Group.{row_of, decimal, offset_of, group_of};
 ghost use Rattle.group.specs.Group.{source_by, date_by, offset_by, start_by, minutes_by, finish_by, series_by, end_by};
@@ -6,14 +8,14 @@ ghost use Rattle.group.specs.Group.{address_of, figures, flagged, offset_bits, j
 ghost use Rattle.group.specs.Laws.{Laws};
 
 // Quarter hours east or west of Greenwich.
-#[derive(Drop)]
+#[derive(Clone, Copy)]
 pub enum Offset {
     East(u8),
     West(u8),
 }
 
 // 'The following types of data group are defined', the terminator, and what is none of them.
-#[derive(Drop)]
+#[derive(Clone, Copy)]
 pub enum Group {
     Other,
     Source(u8, u8),

@@ -1,4 +1,6 @@
 // Prints a preview page's programmes: standard input in large pieces through `view`, and what it prints to standard output.
+#![tactic(auto)]
+
 ghost use Rattle.std.specs.Prelude.{◌+◌, ◌≤◌, min, ◌≡◌, length};
 ghost use Rattle.std.proofs.lemmas.List.Edits.{sets};
 ghost use Rattle.collected.specs.Collected.{deciding};
@@ -14,7 +16,7 @@ fn reported(page: Collected, out: &mut [u8]) -> usize
     view::report(page, out)
 }
 
-#[derive(Drop)]
+#[derive(Clone, Copy)]
 struct Turn {
     got: usize,
     ended: bool,

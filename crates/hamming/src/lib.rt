@@ -1,18 +1,20 @@
 // One Hamming 8/4 byte: what it carries, and what a value is sent as.
+#![tactic(auto)]
+
 ghost use Rattle.std.specs.Prelude.{◌≡◌, true, ◌+◌, ◌*◌, ◌/◌, ◌%◌, ◌<◌};
 ghost use Rattle.std.specs.Int.Bits.{bit_and};
 ghost use Rattle.std.specs.Int.Count.{ones};
 ghost use Rattle.hamming.specs.Byte.{D, good, nibble_of, coded_answer, coding_of};
 ghost use Rattle.hamming.specs.Laws.{Laws};
 
-#[derive(Drop)]
+#[derive(Clone, Copy)]
 pub enum Nibble {
     Damaged,
     Clean(u8),
     Mended(u8),
 }
 
-#[derive(Drop)]
+#[derive(Clone, Copy)]
 pub enum Coded {
     TooWide,
     Byte(u8),

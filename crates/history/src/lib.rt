@@ -1,4 +1,6 @@
 // Demand 3: what holds after every sequence of calls from a fresh desk. The statements are in specs/.
+#![tactic(auto)]
+
 ghost use Rattle.std.specs.Prelude.{true, ◌≡◌};
 ghost use Rattle.history.specs.Laws.{Laws};
 

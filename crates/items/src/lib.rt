@@ -1,4 +1,6 @@
 // A sheet's bytes split into its timers and packets, however they arrive in pieces.
+#![tactic(auto)]
+
 mod length; // how much of the input decides something
 mod pieces; // bytes taken up to the end of an item
 mod stages; // what the next bytes are
@@ -9,7 +11,7 @@ ghost use Rattle.items.specs.Laws.{Laws};
 pub use length::{deciding, still_deciding};
 
 // What the next bytes are; of timers and packets, how many are left.
-#[derive(Drop)]
+#[derive(Clone, Copy)]
 pub enum Stage {
     TimerCount,
     Timers(u32),
@@ -20,7 +22,7 @@ pub enum Stage {
 }
 
 // A sheet as far as it has been split: the stage, and the bytes of an item that is not whole yet.
-#[derive(Drop)]
+#[derive(Clone, Copy)]
 pub struct Split {
     pub stage: Stage,
     pub have: usize,
@@ -28,7 +30,7 @@ pub struct Split {
 }
 
 // Which item is whole with the bytes taken: its bytes are the first of those held.
-#[derive(Drop)]
+#[derive(Clone, Copy)]
 pub enum Found {
     Nothing,
     Timer,
@@ -36,7 +38,7 @@ pub enum Found {
 }
 
 // What is held after some bytes, the place after them, and what was found.
-#[derive(Drop)]
+#[derive(Clone, Copy)]
 pub struct Taken {
     pub split: Split,
     pub at: usize,

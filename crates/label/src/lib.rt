@@ -1,4 +1,6 @@
 // Packet 8/30 format 2 of EN 300 231, and the label that it carries.
+#![tactic(auto)]
+
 ghost use Rattle.std.specs.Prelude.{◌≡◌, true};
 ghost use Rattle.label.specs.Laws.{Laws};
 ghost use Rattle.label.specs.Packet.{refusal_number, written_number};
@@ -6,7 +8,7 @@ ghost use Rattle.label.specs.Packet.{refusal_number, written_number};
 pub mod nibble; // its bits in the order in which they are sent
 pub mod pil; // the parts of a PIL, and the service codes
 
-#[derive(Drop)]
+#[derive(Clone, Copy)]
 pub struct Label {
     pub designation: u8,
     pub lci: u8,
@@ -21,7 +23,7 @@ pub struct Label {
 }
 
 // Why a packet is not read: refusals 1 to 6.
-#[derive(Drop)]
+#[derive(Clone, Copy)]
 pub enum Refusal {
     Length,
     AddressDamaged,
@@ -48,20 +50,20 @@ impl Refusal {
 }
 
 // A label, and how many of its packet's sixteen bytes were mended.
-#[derive(Drop)]
+#[derive(Clone, Copy)]
 pub struct Received {
     pub label: Label,
     pub mended: u8,
 }
 
-#[derive(Drop)]
+#[derive(Clone, Copy)]
 pub enum Reading {
     Refused(Refusal),
     Read(Received),
 }
 
 // What became of a label to be written: refusals 1 and 16, or the bytes.
-#[derive(Drop)]
+#[derive(Clone, Copy)]
 pub enum Written {
     WrongLength,
     TooWide,

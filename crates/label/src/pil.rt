@@ -2,7 +2,7 @@
 ghost use Rattle.std.specs.Prelude.{◌≡◌};
 ghost use Rattle.label.specs.Pil.{parts_of, service_at, service_of};
 
-#[derive(Drop)]
+#[derive(Clone, Copy)]
 pub struct Announced {
     pub day: u8,
     pub month: u8,
@@ -10,7 +10,7 @@ pub struct Announced {
     pub minute: u8,
 }
 
-#[derive(Drop)]
+#[derive(Clone, Copy)]
 pub enum Service {
     Programme,
     TimerControl,

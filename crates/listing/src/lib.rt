@@ -1,4 +1,6 @@
 // What is printed of a page: its packets collected, however they arrive in pieces, read, and listed.
+#![tactic(auto)]
+
 mod lines; // the lines, stored in a buffer
 mod pieces; // a page fed piece by piece, and reported
 
@@ -6,7 +8,7 @@ ghost use Rattle.std.specs.Prelude.{true, ◌≡◌};
 ghost use Rattle.listing.specs.Laws.{Laws};
 
 // A page as far as it has arrived: its first bytes, up to the end of a seventeenth packet, and how many there are.
-#[derive(Drop)]
+#[derive(Clone, Copy)]
 pub struct Collected {
     pub length: usize,
     pub bytes: [u8; 714],

@@ -1,4 +1,6 @@
 // The marked examples of document 01: one list, one statement.
+#![tactic(auto)]
+
 ghost use Rattle.std.specs.Prelude.{◌≡◌, true};
 ghost use Rattle.marked.specs.Marked.{Marked};
 

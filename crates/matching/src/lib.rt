@@ -1,4 +1,6 @@
 // The match of a standing label with a timer, and what a timer sees at the places.
+#![tactic(auto)]
+
 ghost use Rattle.std.specs.Prelude.{true, ◌≡◌};
 ghost use Rattle.matching.specs.Laws.{Laws};
 
@@ -6,7 +8,7 @@ pub mod seeing; // matches, and what a timer sees
 pub mod windows; // a timer's window
 
 // What a timer is: CNI, PIL and year, and 'a home tuner and a length of 1 to 1,440 minutes'. The wider fields come first, as in `Stamped`.
-#[derive(Drop)]
+#[derive(Clone, Copy)]
 pub struct Booking {
     pub pil: u32,
     pub cni: u16,
@@ -16,7 +18,7 @@ pub struct Booking {
 }
 
 // What a timer that is not live goes by: the lowest match with PRF 0, failing that the lowest match, which then has PRF 1.
-#[derive(Drop)]
+#[derive(Clone, Copy)]
 pub enum Sight {
     Nothing,
     Prepare(u8),

@@ -1,4 +1,6 @@
 // Networks, dates, offsets, types and original times of a preview page, in page order: each original time with what it is carried on to.
+#![tactic(auto)]
+
 ghost use Rattle.std.specs.Prelude.{true, ◌≡◌};
 ghost use Rattle.originals.specs.Data.{with_network, with_date, with_offset, with_type, original_by, data_of};
 ghost use Rattle.originals.specs.Taken.{data_start, after_network, after_date, after_offset, after_type, after_original, may_end, data_from, originals_from, given_of};
@@ -7,7 +9,7 @@ ghost use Rattle.originals.specs.Laws.{Laws};
 use figures::{Offset, Value};
 
 // What has been given before: 'until it is replaced'.
-#[derive(Drop)]
+#[derive(Clone, Copy)]
 pub struct InForce {
     pub networked: bool,
     pub network: u16,
@@ -20,7 +22,7 @@ pub struct InForce {
 }
 
 // An original time with its network, date, offset and type.
-#[derive(Drop)]
+#[derive(Clone, Copy)]
 pub struct Original {
     pub hour: u8,
     pub minute: u8,
@@ -34,7 +36,7 @@ pub struct Original {
 
 // What is in force; whether a type stands since the last original time; whether the page may end here; and whether what no page may
 // have has come.
-#[derive(Drop)]
+#[derive(Clone, Copy)]
 pub struct Data {
     pub force: InForce,
     pub typed: bool,
@@ -43,7 +45,7 @@ pub struct Data {
 }
 
 // An original time that a value gives, or none.
-#[derive(Drop)]
+#[derive(Clone, Copy)]
 pub enum Given {
     Nothing,
     Timed(Original),

@@ -1,4 +1,6 @@
 // Lists a page's programmes: standard input in large pieces through `listing`, and what it prints to standard output.
+#![tactic(auto)]
+
 ghost use Rattle.std.specs.Prelude.{◌+◌, ◌≤◌, min, ◌≡◌, length};
 ghost use Rattle.std.proofs.lemmas.List.Edits.{sets};
 ghost use Rattle.listing.specs.Pieces.{deciding, end_told, longest};
@@ -13,7 +15,7 @@ fn reported(page: Collected, out: &mut [u8]) -> usize
     page.report(out)
 }
 
-#[derive(Drop)]
+#[derive(Clone, Copy)]
 struct Turn {
     got: usize,
     ended: bool,

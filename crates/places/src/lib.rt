@@ -1,4 +1,6 @@
 // The sixteen places as an array: one read or changed, and all of them searched.
+#![tactic(auto)]
+
 ghost use Rattle.std.specs.Prelude.{true, ◌≡◌, get_or, set};
 ghost use Rattle.answer.specs.Lists.{some};
 ghost use Rattle.places.specs.Laws.{Laws};
@@ -11,7 +13,7 @@ pub mod standing; // what a place holds, and how long it stands
 
 // What a place last heard. A place that has heard nothing yet is the value with `heard` false. The wider fields of a struct come first, so that
 // none is padded inside: the desk holds sixteen of these, and every call copies it whole.
-#[derive(Drop)]
+#[derive(Clone, Copy)]
 pub struct Stamped {
     pub stamp: u32,
     pub pil: u32,

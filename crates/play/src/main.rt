@@ -1,4 +1,6 @@
 // Plays a sheet: standard input in large pieces through `sheet`, and what it prints in large pieces to standard output.
+#![tactic(auto)]
+
 ghost use Rattle.std.specs.Prelude.{◌+◌, ◌*◌, ◌≤◌, true, ◌≡◌, length};
 ghost use Rattle.sheet.specs.Pieces.{longest};
 
@@ -23,7 +25,7 @@ fn closed(sheet: Sheet, ended: bool, out: &mut [u8], at: usize) -> Closed
     sheet.close(ended, out, at)
 }
 
-#[derive(Drop)]
+#[derive(Clone, Copy)]
 struct Turn {
     got: usize,
     ended: bool,
@@ -53,7 +55,7 @@ fn write(out: &[u8], at: usize) -> bool {
     streams::write(out, at, b"play: the output could not be written")
 }
 
-#[derive(Drop)]
+#[derive(Clone, Copy)]
 struct Kept {
     written: bool,
     at: usize,

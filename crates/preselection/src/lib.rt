@@ -1,4 +1,6 @@
 // Preselection data of a page, packets X/26 of EN 300 231 clause 7.3.2.3: read into its programmes, and written.
+#![tactic(auto)]
+
 ghost use Rattle.std.specs.Prelude.{true, [], ◌≡◌};
 ghost use Rattle.answer.specs.Answer.{number, after, and_then, given};
 ghost use Rattle.programmes.specs.Page.{read_number, reading_of, page_of};

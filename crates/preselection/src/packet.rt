@@ -84,7 +84,7 @@ fn triplet_at(bytes: &[u8], k: usize, j: usize) -> Triplet
 }
 
 // The state and the programmes after a packet's triplets, and whether one of these is damaged.
-#[derive(Drop)]
+#[derive(Clone, Copy)]
 pub(crate) struct Taken {
     pub(crate) damaged: bool,
     pub(crate) state: State,

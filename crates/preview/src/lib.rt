@@ -1,4 +1,6 @@
 // A preview page of EN 300 231 clause 7.3.1: 24 rows of 40 characters, read into its programmes.
+#![tactic(auto)]
+
 ghost use Rattle.std.specs.Prelude.{true, ◌≡◌, []};
 ghost use Rattle.preview.specs.Taken.{page_of, read_number, ReadAs};
 ghost use Rattle.preview.specs.Laws.{Laws};
@@ -11,7 +13,7 @@ mod paired; // the programmes as they are given
 mod taking; // a row, one code at a time
 
 // A programme of a page: the place of its title, both its times, its network and date, its original time, its offset and its type.
-#[derive(Drop)]
+#[derive(Clone, Copy)]
 pub struct Programme {
     pub row: u8,
     pub column: u8,
@@ -27,14 +29,14 @@ pub struct Programme {
 }
 
 // The first `count` are the page's, in page order.
-#[derive(Drop)]
+#[derive(Clone, Copy)]
 pub struct Page {
     pub count: usize,
     pub programmes: [Programme; 24],
 }
 
 // Why a page is not read, or that it is: refusals 23, 24 and 25.
-#[derive(Drop)]
+#[derive(Clone, Copy)]
 pub enum Verdict {
     Length,
     Unreadable,
@@ -57,7 +59,7 @@ impl Verdict {
 }
 
 // A page that is read; of a refused one no programme is told.
-#[derive(Drop)]
+#[derive(Clone, Copy)]
 pub struct Reading {
     pub verdict: Verdict,
     pub page: Page,

@@ -1,4 +1,6 @@
 // What tests and benchmarks in another language link: a few calls over numbers and bytes. None asks anything of its caller.
+#![tactic(auto)]
+
 ghost use Rattle.std.specs.Prelude.{true, ◌≡◌, length};
 ghost use Rattle.answer.specs.Answer.{number, after};
 ghost use Rattle.hamming.specs.Byte.{nibble_of, coding_of};

@@ -1,4 +1,6 @@
 // The programmes of a page: what its preselection packets mean, what they are written as, and the PIL of each.
+#![tactic(auto)]
+
 ghost use Rattle.std.specs.Prelude.{true, ◌≡◌};
 ghost use Rattle.programmes.specs.Laws.{Laws};
 ghost use Rattle.programmes.specs.Meaning.{nothing};
@@ -9,20 +11,20 @@ use group::Offset;
 
 pub mod pil; // from a programme to a timer
 
-#[derive(Drop)]
+#[derive(Clone, Copy)]
 pub enum Finish {
     Absent,
     Time(u8, u8),
     Duration(u8, u8),
 }
 
-#[derive(Drop)]
+#[derive(Clone, Copy)]
 pub enum Series {
     Absent,
     Code(u8),
 }
 
-#[derive(Drop)]
+#[derive(Clone, Copy)]
 pub struct Programme {
     pub row: u8,
     pub column: u8,
@@ -61,14 +63,14 @@ impl Programme {
 }
 
 // The first `count` are the page's, in page order.
-#[derive(Drop)]
+#[derive(Clone, Copy)]
 pub struct Page {
     pub count: usize,
     pub programmes: [Programme; 103],
 }
 
 // 'These three data groups activate their functions in the sequence and remain until redefined.'
-#[derive(Drop)]
+#[derive(Clone, Copy)]
 pub struct InForce {
     pub sourced: bool,
     pub country: u8,
@@ -97,7 +99,7 @@ impl InForce {
 }
 
 // Why a page is not read, or that it is: refusals 20, 21, 18 and 22.
-#[derive(Drop)]
+#[derive(Clone, Copy)]
 pub enum Verdict {
     Length,
     Damaged,
@@ -122,14 +124,14 @@ impl Verdict {
 }
 
 // A page that is read; of a refused one no programme is told.
-#[derive(Drop)]
+#[derive(Clone, Copy)]
 pub struct Reading {
     pub verdict: Verdict,
     pub page: Page,
 }
 
 // What became of programmes to be written: refusals 20 and 19, or how many packets they took.
-#[derive(Drop)]
+#[derive(Clone, Copy)]
 pub enum Written {
     WrongLength,
     OutOfRange,

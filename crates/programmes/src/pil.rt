@@ -5,7 +5,7 @@ ghost use Rattle.programmes.specs.Timer.{pil_of};
 use crate::Programme;
 
 // `NoPil` where a number is wider than its bits, which would spill into another PIL.
-#[derive(Drop)]
+#[derive(Clone, Copy)]
 pub enum Pil {
     NoPil,
     Label(u32),

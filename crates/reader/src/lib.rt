@@ -1,4 +1,6 @@
 // A packet's bytes read into a label, and its mended bytes counted.
+#![tactic(auto)]
+
 ghost use Rattle.std.specs.Prelude.{true, cond, ◌≡◌, ℕ, ◌<◌, eqb, length};
 ghost use Rattle.answer.specs.Lists.{some, count};
 ghost use Rattle.hamming.specs.Byte.{away, nibble_of};
@@ -12,7 +14,7 @@ use label::nibble::turned;
 use label::{Label, Reading, Received, Refusal};
 
 // Bytes 9 to 21 as one number of 52 bits, the first sent highest, whether one of them is damaged, and how many are mended.
-#[derive(Drop)]
+#[derive(Clone, Copy)]
 struct Sent {
     damaged: bool,
     mended: u8,

@@ -1,4 +1,6 @@
 // From a preview page to the desk: what a sheet that begins with the page's timers makes it say.
+#![tactic(auto)]
+
 ghost use Rattle.std.specs.Prelude.{◌≡◌, true};
 ghost use Rattle.recording.specs.Recording.{Recording};
 

@@ -1,11 +1,13 @@
 // What each call of the desk replies, and the paper's number for it.
+#![tactic(auto)]
+
 ghost use Rattle.std.specs.Prelude.{true, ◌≡◌};
 ghost use Rattle.answer.specs.Answer.{number};
 ghost use Rattle.reply.specs.Numbers.{packet_refusal, packet_number, wait_answer, add_answer, cancel_number, state_says, ask_answer, second_number};
 ghost use Rattle.reply.specs.Laws.{Laws};
 
 // Why a packet is not heard: refusals 8, 9, 10, those of the reader, 7, 11, 12.
-#[derive(Drop)]
+#[derive(Clone, Copy)]
 pub enum PacketRefusal {
     Tuner,
     Before,
@@ -33,7 +35,7 @@ impl PacketRefusal {
     }
 }
 
-#[derive(Drop)]
+#[derive(Clone, Copy)]
 pub enum PacketAnswer {
     Refused(PacketRefusal),
     Done,
@@ -52,7 +54,7 @@ impl PacketAnswer {
 }
 
 // Refusals 9 and 10, or the seconds walked.
-#[derive(Drop)]
+#[derive(Clone, Copy)]
 pub enum WaitAnswer {
     Before,
     Past,
@@ -73,7 +75,7 @@ impl WaitAnswer {
 }
 
 // Refusals 11, 17, 12, 13 and 14, or the slot.
-#[derive(Drop)]
+#[derive(Clone, Copy)]
 pub enum AddAnswer {
     NotReal,
     OutOfRange,
@@ -100,7 +102,7 @@ impl AddAnswer {
 }
 
 // Refusal 15, or nothing more to say.
-#[derive(Drop)]
+#[derive(Clone, Copy)]
 pub enum CancelAnswer {
     NoTimer,
     Done,
@@ -119,7 +121,7 @@ impl CancelAnswer {
 }
 
 // What asking a slot gives.
-#[derive(Drop)]
+#[derive(Clone, Copy)]
 pub enum State {
     Waiting,
     Prepared,
@@ -146,7 +148,7 @@ impl State {
 }
 
 // Refusal 15, or the timer's state.
-#[derive(Drop)]
+#[derive(Clone, Copy)]
 pub enum AskAnswer {
     NoTimer,
     Says(State),
@@ -165,7 +167,7 @@ impl AskAnswer {
 }
 
 // Refusal 10, or nothing more to say.
-#[derive(Drop)]
+#[derive(Clone, Copy)]
 pub enum SecondAnswer {
     Past,
     Done,

@@ -1,4 +1,6 @@
 // What is printed of four tuners, stored in a buffer.
+#![tactic(auto)]
+
 mod lines; // the lines
 
 ghost use Rattle.std.specs.Prelude.{◌≤◌, true, ◌≡◌, length, get_or};
@@ -13,7 +15,7 @@ use crate::lines::{last_line, tuner_line};
 const LONGEST: usize = 194;
 
 // What came from one tuner: packets read clean, packets read with mended bytes, mended bytes in all, packets refused.
-#[derive(Drop)]
+#[derive(Clone, Copy)]
 pub struct Tuner {
     pub clean: u32,
     pub mended: u32,

@@ -1,4 +1,6 @@
 // A row of a preview page, taken one code at a time: the formats and the title that it contains.
+#![tactic(auto)]
+
 ghost use Rattle.std.specs.Prelude.{true, ◌≡◌, set};
 ghost use Rattle.rows.specs.Laws.{Laws};
 ghost use Rattle.rows.specs.Taken.{found_here, titled_by, is_text_value, row_next, row_start, count_after};
@@ -10,7 +12,7 @@ use formats::Start;
 mod title; // the title that is being read
 
 // The title that is being read: none, one whose pair has begun, one without text so far, one with text; or the row has had its title.
-#[derive(Drop)]
+#[derive(Clone, Copy)]
 pub enum Reading {
     Nothing,
     Opened,
@@ -21,7 +23,7 @@ pub enum Reading {
 
 // The colour in force; what the last mark starts, how many codes have come since, the first eleven of them; the title that is being
 // read, and the column of its pair.
-#[derive(Drop)]
+#[derive(Clone, Copy)]
 pub struct Row {
     pub colour: Colour,
     pub start: Start,

@@ -1,4 +1,6 @@
 // The second-by-second rule for one timer: how its copy goes on at a moment.
+#![tactic(auto)]
+
 ghost use Rattle.std.specs.Prelude.{true, ◌≡◌};
 ghost use Rattle.rule.specs.Laws.{Laws};
 
@@ -8,7 +10,7 @@ pub mod copies; // how a copy goes on at a moment
 
 // How a timer's copy stands. An ended timer is one whose window has closed, and is no state of its own. A place is a number from 0 to 15, in one
 // byte: a desk with sixteen of these is copied at every call.
-#[derive(Drop)]
+#[derive(Clone, Copy)]
 pub enum Copy {
     Free,
     Waiting,
@@ -18,7 +20,7 @@ pub enum Copy {
     ByTheClock,
 }
 
-#[derive(Drop)]
+#[derive(Clone, Copy)]
 pub struct Timer {
     pub booking: Booking,
     pub copy: Copy,

@@ -1,4 +1,6 @@
 // The timers section of a sheet, out of a preview page that arrives in pieces behind the number of a home tuner.
+#![tactic(auto)]
+
 ghost use Rattle.std.specs.Prelude.{true, ◌≡◌};
 ghost use Rattle.section.specs.Asked.{nothing, after_piece, is_full, SectionAs};
 ghost use Rattle.section.specs.Laws.{Laws};
@@ -8,7 +10,7 @@ use collected::Collected;
 mod timers; // a page's timers as the entries of a sheet
 
 // What is written: the first `length` bytes. A refused page has a number, and no byte.
-#[derive(Drop)]
+#[derive(Clone, Copy)]
 pub struct Section {
     pub number: u8,
     pub length: usize,
@@ -16,14 +18,14 @@ pub struct Section {
 }
 
 // How many timers there are so far, and their entries behind the place of their count.
-#[derive(Drop)]
+#[derive(Clone, Copy)]
 struct Entries {
     count: usize,
     bytes: [u8; 217],
 }
 
 // What is asked for, as far as it has arrived: the home tuner, once a byte has, and the page.
-#[derive(Drop)]
+#[derive(Clone, Copy)]
 pub struct Asked {
     pub begun: bool,
     pub tuner: u8,

@@ -1,4 +1,6 @@
 // Programmes as the triplets that they are sent in: each one's groups, one after the other, and whether a field is outside its range.
+#![tactic(auto)]
+
 mod groups; // the groups of one programme
 mod ranges; // the ranges of its fields
 
@@ -16,7 +18,7 @@ use programmes::{InForce, Page, Programme};
 
 // The eighteen bits of each triplet of sixteen packets, terminators where no group is, and how many groups there are, which may be
 // more.
-#[derive(Drop)]
+#[derive(Clone, Copy)]
 pub struct Words {
     pub count: usize,
     pub bits: [u32; 208],
@@ -85,7 +87,7 @@ fn force_of(q: Programme) -> InForce
 }
 
 // The triplets so far, and what is in force after them.
-#[derive(Drop)]
+#[derive(Clone, Copy)]
 struct Sent {
     words: Words,
     force: InForce,

@@ -1,4 +1,6 @@
 // A page's data groups taken one at a time: what is in force, what is held, and what each makes of the programmes so far.
+#![tactic(auto)]
+
 ghost use Rattle.std.specs.Prelude.{true, ◌≡◌};
 ghost use Rattle.programmes.specs.Meaning.{in_force, is_start, is_terminator, programme_by};
 ghost use Rattle.programmes.specs.declared.Finish.TheVariants as finish;
@@ -10,7 +12,7 @@ use group::Group;
 use programmes::{Finish, InForce, Programme, Series};
 
 // What a group does to the programmes so far.
-#[derive(Drop)]
+#[derive(Clone, Copy)]
 pub enum Change {
     Nothing,
     Begins(Programme),
@@ -20,7 +22,7 @@ pub enum Change {
 
 // What is in force, the Starting or Finishing Hours group that waits for its Minutes group, whether a terminator has come, and
 // whether a Starting Hours group came without its source or date.
-#[derive(Drop)]
+#[derive(Clone, Copy)]
 pub struct State {
     pub force: InForce,
     pub held: Group,

@@ -11,7 +11,7 @@ use desk::Desk;
 use items::Found;
 
 // The desk that a timer or a packet leaves, and the place after what it printed.
-#[derive(Drop)]
+#[derive(Clone, Copy)]
 pub(crate) struct Left {
     pub(crate) desk: Desk,
     pub(crate) at: usize,

@@ -1,4 +1,6 @@
 // The sheet program's work: what a sheet's bytes make the desk say, however they arrive in pieces.
+#![tactic(auto)]
+
 mod acts; // what a whole item does to the desk, and prints
 mod lines; // the lines, stored in a buffer
 mod pieces; // a sheet fed piece by piece, and closed
@@ -10,14 +12,14 @@ use desk::Desk;
 use items::Split;
 
 // A sheet as far as it has been played: the desk, and the items as far as they are split.
-#[derive(Drop)]
+#[derive(Clone, Copy)]
 pub struct Sheet {
     pub desk: Desk,
     pub split: Split,
 }
 
 // What became of a piece of input: refused where the buffer might not hold what it prints.
-#[derive(Drop)]
+#[derive(Clone, Copy)]
 pub struct Fed {
     pub taken: bool,
     pub sheet: Sheet,
@@ -25,7 +27,7 @@ pub struct Fed {
 }
 
 // What became of the input's end: refused where the buffer might not hold the last line.
-#[derive(Drop)]
+#[derive(Clone, Copy)]
 pub struct Closed {
     pub taken: bool,
     pub at: usize,

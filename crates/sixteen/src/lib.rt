@@ -1,4 +1,6 @@
 // The sixteen slots as an array: what holds of it as a whole, with no clock and no desk.
+#![tactic(auto)]
+
 ghost use Rattle.std.specs.Prelude.{true, ◌≡◌};
 ghost use Rattle.sixteen.specs.Laws.{Laws};
 
@@ -7,7 +9,7 @@ pub mod slots; // which are held, live or free, one timer put, and all of them g
 use rule::Timer;
 
 // The timers after a moment, and how many of them are live.
-#[derive(Drop)]
+#[derive(Clone, Copy)]
 pub struct GoneOn {
     pub live: u32,
     pub timers: [Timer; 16],

@@ -1,4 +1,6 @@
 // Standard input and output for the programs that read a sheet. What cannot be read or written is told on standard error.
+#![tactic(auto)]
+
 ghost use Rattle.std.specs.Prelude.{◌≡◌};
 ghost use Rattle.io.specs.Counts.{IsPrefixLen};
 
@@ -16,7 +18,7 @@ fn interrupted(got: isize) -> bool {
 
 // What a read gave: how many bytes at the start of the piece, and whether the input has ended. One that fails gives none, as the end
 // does, but is not the end.
-#[derive(Drop)]
+#[derive(Clone, Copy)]
 pub struct Got {
     pub count: usize,
     pub ended: bool,

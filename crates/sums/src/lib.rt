@@ -1,4 +1,6 @@
 // What a format's figures add to the page's sum.
+#![tactic(auto)]
+
 ghost use Rattle.std.specs.Prelude.{true, ◌≡◌, ◌+◌};
 ghost use Rattle.codes.specs.Codes.{figure};
 ghost use Rattle.formats.specs.Formats.{pattern, figures_by};

@@ -1,5 +1,7 @@
 // The table that the contents of a preview page are entered into: what is announced so far, the original times so far, the sum of the
 // figures and the protection words.
+#![tactic(auto)]
+
 ghost use Rattle.std.specs.Prelude.{true, ◌≡◌, set};
 ghost use Rattle.figures.specs.Permitted.{words_of};
 ghost use Rattle.table.specs.Table.{one_more, no_announcement, with_told, no_original, with_given, word_after, words_after, agreed, is_wrong, table_start, after_format, titled_at, with_code};
@@ -10,7 +12,7 @@ use figures::{Found, Offset, Value};
 use originals::{Data, Given, Original};
 
 // The protection words so far: none, all the same, or different ones.
-#[derive(Drop)]
+#[derive(Clone, Copy)]
 pub enum Words {
     Nothing,
     Same(u8),
@@ -18,20 +20,20 @@ pub enum Words {
 }
 
 // The first `count` places, and blanks after them; more than 24 count as 25.
-#[derive(Drop)]
+#[derive(Clone, Copy)]
 pub struct Announcements {
     pub count: usize,
     pub places: [Announcement; 24],
 }
 
-#[derive(Drop)]
+#[derive(Clone, Copy)]
 pub struct Originals {
     pub count: usize,
     pub places: [Original; 24],
 }
 
 // What has come of times and titles, and of data; the sum of the figures; whether figures were not permitted, or a code no code.
-#[derive(Drop)]
+#[derive(Clone, Copy)]
 pub struct Table {
     pub stage: Stage,
     pub announcements: Announcements,

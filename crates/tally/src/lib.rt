@@ -1,4 +1,6 @@
 // How bad each tuner's aerial is: its packets in a sheet, counted as they are read, however the sheet arrives in pieces.
+#![tactic(auto)]
+
 mod counts; // one packet more
 mod pieces; // a sheet fed piece by piece, and reported
 
@@ -9,7 +11,7 @@ use items::Split;
 use report::Tuner;
 
 // A sheet as far as its packets have been counted: the items as far as they are split, and the four tuners.
-#[derive(Drop)]
+#[derive(Clone, Copy)]
 pub struct Tally {
     pub split: Split,
     pub tuners: [Tuner; 4],

@@ -1,5 +1,7 @@
 // Writes the timers section of a sheet from a preview page: standard input, the home tuner's byte and then the page, in large pieces
 // through `section`, and what it writes to standard output. A refused page's number is told on standard error.
+#![tactic(auto)]
+
 ghost use Rattle.std.specs.Prelude.{◌≡◌, List, ℕ, length};
 ghost use Rattle.section.specs.Asked.{after_piece};
 
@@ -7,7 +9,7 @@ use answer::digit;
 use libc::STDERR_FILENO;
 use section::Asked;
 
-#[derive(Drop)]
+#[derive(Clone, Copy)]
 struct Turn {
     got: usize,
     ended: bool,

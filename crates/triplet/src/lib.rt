@@ -1,4 +1,6 @@
 // One Hamming 24/18 word, which is three bytes: what it carries, and what a value is sent as.
+#![tactic(auto)]
+
 ghost use Rattle.std.specs.Prelude.{◌≡◌, true, ◌+◌, ◌%◌};
 ghost use Rattle.std.specs.Int.Bits.{bit_and};
 ghost use Rattle.std.specs.Int.Count.{ones};
@@ -6,14 +8,14 @@ ghost use Rattle.triplet.specs.Word.{word_of, good, triplet_of, coded_answer, co
 ghost use Rattle.triplet.specs.Checks.{data_of, spelt};
 ghost use Rattle.triplet.specs.Laws.{Laws};
 
-#[derive(Drop)]
+#[derive(Clone, Copy)]
 pub enum Triplet {
     Damaged,
     Clean(u32),
     Mended(u32),
 }
 
-#[derive(Drop)]
+#[derive(Clone, Copy)]
 pub enum Coded {
     TooWide,
     Word(u32),

@@ -1,4 +1,6 @@
 // What is printed of a preview page: its bytes read, as far as they are collected, and its programmes told.
+#![tactic(auto)]
+
 mod lines; // the lines, stored in a buffer
 mod page; // the lines one after the other
 

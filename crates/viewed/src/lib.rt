@@ -1,4 +1,6 @@
 // A preview page's programmes as plain bytes, for callers in another language. The call asks nothing of its caller.
+#![tactic(auto)]
+
 ghost use Rattle.std.specs.Prelude.{◌≤◌, true, ◌∷◌, ◌≡◌, length};
 ghost use Rattle.viewed.specs.Viewed.{bytes_of, ReadInto};
 ghost use Rattle.viewed.specs.Laws.{Laws};

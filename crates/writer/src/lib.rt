@@ -1,4 +1,6 @@
 // A label written into a packet's bytes.
+#![tactic(auto)]
+
 ghost use Rattle.std.specs.Prelude.{true, ◌≡◌, ◌∷◌, [], length};
 ghost use Rattle.answer.specs.Answer.{number, after};
 ghost use Rattle.label.specs.Layout.{sent_at};
