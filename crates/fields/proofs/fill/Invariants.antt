@@ -1,0 +1,10 @@
+-- `fill` stores the count, then the programmes one after the other.
+use Prim.Native.Nat.{◌-◌}
+use Rattle.fields.proofs.Stored.{Stored}
+use Rattle.fields.proofs.fill.Given as goal
+
+abbrev pub invariant-loop-i : goal.invariant-loop-i
+invariant-loop-i l = Stored l.programmes l.initial.out l.out l.i
+
+abbrev pub decreases-loop-i : goal.decreases-loop-i
+decreases-loop-i l = 103 - l.i

@@ -1,0 +1,12 @@
+-- `main`'s loop: the measure is how many bytes may still decide something.
+use Prim.Native.Nat.{◌-◌, ◌<◌}
+use mathlib.Core.Bool.{true, cond}
+use mathlib.Core.Path.{◌≡◌}
+use Rattle.collected.specs.Collected.{deciding}
+use Rattle.guide.proofs.main.Given as goal
+
+abbrev pub invariant-loop-more : goal.invariant-loop-more
+invariant-loop-more l = l.seen ≡ true → l.more.length < deciding
+
+abbrev pub decreases-loop-more : goal.decreases-loop-more
+decreases-loop-more l = cond l.seen (deciding - l.more.length) 0

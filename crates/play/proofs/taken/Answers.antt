@@ -1,0 +1,8 @@
+-- `taken`: where there is room, `feed` takes the piece.
+use Rattle.sheet.proofs.Rooms.{fed}
+use Rattle.play.proofs.taken.Goals as goal
+
+pub returns : goal.returns
+returns c =
+    let a = c.args in
+    rw c.feed.ensures.0.0 (fed a.piece.now a.out-1.now a.at a.sheet c.requires)

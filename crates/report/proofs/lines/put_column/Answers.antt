@@ -1,0 +1,10 @@
+-- `put_column`: a space, and then a number of at most ten digits.
+use mathlib.Core.List.{◌∷◌}
+use Rattle.answer.specs.Text.{space, decimal_in}
+use Rattle.answer.proofs.Texts.{then}
+use Rattle.report.proofs.lines.put_column.Goals as goal
+
+pub returns : goal.returns
+returns c =
+    let a = c.args in
+    then a.out-1.now a.at (space ∷ []) (decimal_in 10 a.n) c.put-next.ensures c.put_decimal.ensures

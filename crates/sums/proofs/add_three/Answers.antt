@@ -1,0 +1,12 @@
+-- `add_three`: three figures added fit.
+use native.Mathlib.Omega.{arith}
+use Rattle.codes.proofs.Facts.{figure_small}
+use Rattle.sums.proofs.add_three.Goals as goal
+
+pub overflow_add-result : goal.overflow_add-result
+overflow_add-result c =
+    let a = c.args in
+    omega (arith, figure_small a.c, figure_small a.d, figure_small a.e)
+
+pub returns : goal.returns
+returns c = omega arith
