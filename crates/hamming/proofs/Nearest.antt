@@ -1,6 +1,6 @@
 -- The nearest good byte: no other is nearer, its value is what is found, and clean, mended and damaged by its distance.
 use Prim.Native.Nat.{ℕ, ◌≤◌, ◌<◌, min}
-use mathlib.Core.Path.{◌≡◌, refl, sym, ap, ◌∙◌}
+use mathlib.Core.Path.{◌≡◌, refl, sym, ap, ◌∙◌, subst}
 use mathlib.Core.Bool.{Bool, true, false, cond, ◌||◌, or-true}
 use mathlib.Core.List.{List, [], ◌∷◌, map}
 use native.Mathlib.Omega.{arith}
@@ -32,11 +32,15 @@ module _ (f : ℕ → ℕ) where
   least_one v [] = rw (eq-eqb (f v) (f v) refl)
   least_one v (w ∷ vs) = go (least (map f (w ∷ vs))) (least_one w vs)
     where
+      after : (a b : Bool) → b ≡ true → (a || b) ≡ true
+      after a b e = rw e (or-true a)
+
       go : (m : ℕ) → Among f m (w ∷ vs) → Among f (min (f v) m) (v ∷ (w ∷ vs))
       go m k =
           by_test (leb (f v) m)
           (λ t. let l = leb-true (f v) m t in let e : min (f v) m ≡ f v = omega arith in rw e (rw (eq-eqb (f v) (f v) refl)))
-          (λ t. let l = leb-false (f v) m t in let e : min (f v) m ≡ m = omega arith in rw e (rw k (or-true (eqb (f v) m))))
+          (λ t. let l = leb-false (f v) m t in let e : min (f v) m ≡ m = omega arith in
+          subst (λ x. Among f x (v ∷ (w ∷ vs))) (sym e) (after (eqb (f v) m) (some (λ x. eqb (f x) m) (w ∷ vs)) k))
 
 -- ── the value that is found ────────────────────────────────────────────────────────────────────────────────────────
 abbrev pub Found : ℕ → ℕ → ℕ → Type 0

@@ -3,7 +3,6 @@ use Prim.Native.Nat.{ℕ}
 use mathlib.Core.Path.{◌≡◌, refl}
 use native.Mathlib.Omega.{arith}
 use lib.Count.{ones, ones_in}
-use Rattle.answer.proofs.Cases.{past}
 use Rattle.hamming.proofs.Checks.{Tells}
 use Rattle.hamming.proofs.wrong_bit.Goals as goal
 
@@ -40,4 +39,4 @@ returns-in-6 c = told 0x08 6 c.in-6.is (refl, refl, refl, refl)
 
 pub returns-in-7-to-255 : goal.returns-in-7-to-255
 unfolding ones ones_in
-returns-in-7-to-255 c = let h = past 7 c.args.failing c.match.rest in told 0x02 7 (omega arith) (refl, refl, refl, refl)
+returns-in-7-to-255 c = told 0x02 7 (omega (arith, c.in-7-to-255, c.requires)) (refl, refl, refl, refl)

@@ -1,4 +1,5 @@
 -- The loop's invariant: the groups of the programmes from number i on, sent after those that are there, are all of them.
+use mathlib.Core.List.{[]}
 use Prim.Native.Nat.{◌-◌, ◌*◌, ◌≤◌}
 use mathlib.Core.Path.{◌≡◌}
 use lib.ListN.{length, take, drop}

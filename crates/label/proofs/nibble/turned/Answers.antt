@@ -1,10 +1,9 @@
 -- `turned` has a row for each value, whose number is that of the data bits, D1 first: one test of the sixteen.
 use Prim.Native.Nat.{ℕ, ◌%◌, ◌<◌}
-use mathlib.Core.List.{List, ◌∷◌}
+use mathlib.Core.List.{[], List, ◌∷◌}
 use mathlib.Core.Path.{◌≡◌, subst}
 use native.Mathlib.Omega.{arith}
 use lib.ListN.{get_or}
-use Rattle.answer.proofs.Cases.{past}
 use Rattle.hamming.specs.Byte.{D}
 use Rattle.label.proofs.Nibbles.{turned, turning}
 use Rattle.label.proofs.nibble.turned.Goals as goal
@@ -62,4 +61,4 @@ pub returns-in-14 : goal.returns-in-14
 returns-in-14 c = looked _ 14 c.in-14.is
 
 pub returns-in-15-to-255 : goal.returns-in-15-to-255
-returns-in-15-to-255 c = let v = c.args.v in let h = past 15 (v % 16) c.match.rest in let last : v % 16 ≡ 15 = omega arith in looked v 15 last
+returns-in-15-to-255 c = let v = c.args.v in let last : v % 16 ≡ 15 = omega (arith, c.in-15-to-255) in looked v 15 last

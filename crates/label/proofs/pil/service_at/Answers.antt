@@ -28,4 +28,6 @@ returns-in-0-to-27 c =
     none h (λ (e : h ≡ 31). omega arith) (λ (e : h ≡ 30). omega arith) (λ (e : h ≡ 29). omega arith) (λ (e : h ≡ 28). omega arith)
 
 pub returns-in-32-to-255 : goal.returns-in-32-to-255
-returns-in-32-to-255 c = none _ c.match.rest.1 c.match.rest.0.1 c.match.rest.0.0.1 c.match.rest.0.0.0.1
+returns-in-32-to-255 c =
+    let h = c.args.hour in
+    none h (λ (e : h ≡ 31). omega (arith, c.in-32-to-255)) (λ (e : h ≡ 30). omega (arith, c.in-32-to-255)) (λ (e : h ≡ 29). omega (arith, c.in-32-to-255)) (λ (e : h ≡ 28). omega (arith, c.in-32-to-255))

@@ -1,5 +1,5 @@
 -- `number_line`: a letter, a number, and the line's end.
-use mathlib.Core.List.{◌∷◌, ◌++◌}
+use mathlib.Core.List.{[], ◌∷◌, ◌++◌}
 use native.Mathlib.Omega.{arith}
 use Rattle.answer.specs.Text.{line_feed}
 use Rattle.answer.proofs.Texts.{then}

@@ -1,5 +1,5 @@
 -- `programme_line`: the line's two parts, and its end.
-use mathlib.Core.List.{◌∷◌, ◌++◌}
+use mathlib.Core.List.{[], ◌∷◌, ◌++◌}
 use native.Mathlib.Omega.{arith}
 use Rattle.answer.specs.Text.{line_feed}
 use Rattle.answer.proofs.Texts.{then}

@@ -1,5 +1,5 @@
 -- `put_column`: a gap, and then a number of at most three digits.
-use mathlib.Core.List.{◌∷◌}
+use mathlib.Core.List.{[], ◌∷◌}
 use Rattle.answer.specs.Text.{space, decimal_in}
 use Rattle.answer.proofs.Texts.{then}
 use Rattle.listing.proofs.lines.put_column.Goals as goal

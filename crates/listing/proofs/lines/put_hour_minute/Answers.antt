@@ -1,5 +1,5 @@
 -- `put_hour_minute`: two numbers of at most three digits, and a colon between them.
-use mathlib.Core.List.{◌∷◌}
+use mathlib.Core.List.{[], ◌∷◌}
 use native.Mathlib.Omega.{arith}
 use Rattle.answer.specs.Text.{decimal_in}
 use Rattle.answer.proofs.Texts.{then, decimal_short}

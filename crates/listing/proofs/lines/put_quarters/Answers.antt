@@ -1,6 +1,6 @@
 -- `put_quarters`: a gap, a sign where it is west, and the quarter hours.
 use mathlib.Core.Bool.{cond}
-use mathlib.Core.List.{◌∷◌}
+use mathlib.Core.List.{[], ◌∷◌}
 use native.Mathlib.Omega.{arith}
 use Rattle.answer.specs.Text.{space, decimal_in}
 use Rattle.answer.proofs.Texts.{then}

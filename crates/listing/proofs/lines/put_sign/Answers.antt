@@ -1,7 +1,7 @@
 -- `put_sign`: a gap, and the sign where it is shown.
 use mathlib.Core.Bool.{true, false}
 use mathlib.Core.Path.{◌≡◌}
-use mathlib.Core.List.{◌∷◌}
+use mathlib.Core.List.{[], ◌∷◌}
 use Rattle.answer.specs.Text.{space}
 use Rattle.answer.proofs.Texts.{then}
 use Rattle.listing.proofs.lines.put_sign.Goals as goal

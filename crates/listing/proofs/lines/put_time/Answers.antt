@@ -1,6 +1,6 @@
 -- `put_time`: a gap, a sign where it is a duration, and the time.
 use mathlib.Core.Bool.{cond}
-use mathlib.Core.List.{◌∷◌}
+use mathlib.Core.List.{[], ◌∷◌}
 use native.Mathlib.Omega.{arith}
 use Rattle.answer.specs.Text.{space}
 use Rattle.answer.proofs.Texts.{then}

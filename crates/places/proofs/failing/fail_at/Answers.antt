@@ -1,6 +1,6 @@
 -- By whether any of the four stands.
 use mathlib.Core.Bool.{Bool, true, false, ◌||◌, or-false}
-use mathlib.Core.List.{◌∷◌}
+use mathlib.Core.List.{[], ◌∷◌}
 use mathlib.Core.Path.{◌≡◌, sym, ◌∙◌}
 use Rattle.answer.specs.Lists.{some}
 use Rattle.places.specs.declared.Stamped.{Stamped}

@@ -1,5 +1,5 @@
 -- `a_line`: its letter and tuner, four numbers of at most eleven places each, and the line's end.
-use mathlib.Core.List.{◌∷◌, ◌++◌}
+use mathlib.Core.List.{[], ◌∷◌, ◌++◌}
 use native.Mathlib.Omega.{arith}
 use Rattle.answer.specs.Text.{space, line_feed, digit}
 use Rattle.answer.proofs.Texts.{then}

@@ -1,5 +1,5 @@
 -- `last_line`: its letter, and the line's end.
-use mathlib.Core.List.{◌∷◌}
+use mathlib.Core.List.{[], ◌∷◌}
 use Rattle.answer.specs.Text.{line_feed}
 use Rattle.answer.proofs.Texts.{then}
 use Rattle.report.proofs.lines.last_line.Goals as goal

@@ -1,5 +1,5 @@
 -- `open_line`: a letter, a space, and the tuner's digit.
-use mathlib.Core.List.{◌∷◌}
+use mathlib.Core.List.{[], ◌∷◌}
 use Rattle.answer.specs.Text.{space}
 use Rattle.answer.proofs.Texts.{then}
 use Rattle.report.proofs.lines.open_line.Goals as goal

@@ -1,5 +1,5 @@
 -- `put_column`: a space, and then a number of at most ten digits.
-use mathlib.Core.List.{◌∷◌}
+use mathlib.Core.List.{[], ◌∷◌}
 use Rattle.answer.specs.Text.{space, decimal_in}
 use Rattle.answer.proofs.Texts.{then}
 use Rattle.report.proofs.lines.put_column.Goals as goal

@@ -1,6 +1,6 @@
 -- `end_line`: a number of at most two digits, and then the line's end.
 use native.Mathlib.Omega.{arith}
-use mathlib.Core.List.{◌∷◌}
+use mathlib.Core.List.{[], ◌∷◌}
 use Rattle.answer.specs.Text.{line_feed}
 use Rattle.sheet.specs.Sheet.{decimal}
 use Rattle.sheet.proofs.Rooms.{two_digits}

@@ -1,5 +1,5 @@
 -- `last_line`: its letter, and then its number.
-use mathlib.Core.List.{◌∷◌, ◌++◌}
+use mathlib.Core.List.{[], ◌∷◌, ◌++◌}
 use Rattle.answer.specs.Text.{space, line_feed}
 use Rattle.sheet.specs.Sheet.{decimal}
 use Rattle.answer.proofs.Texts.{then}

@@ -1,5 +1,5 @@
 -- `open_line`: a letter, and then a space.
-use mathlib.Core.List.{◌∷◌}
+use mathlib.Core.List.{[], ◌∷◌}
 use Rattle.answer.specs.Text.{space}
 use Rattle.answer.proofs.Texts.{then}
 use Rattle.sheet.proofs.lines.open_line.Goals as goal

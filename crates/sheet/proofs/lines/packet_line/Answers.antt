@@ -1,6 +1,6 @@
 -- `packet_line`: its letter, the answer of at most two digits, a space, and the count.
 use native.Mathlib.Omega.{arith}
-use mathlib.Core.List.{◌∷◌, ◌++◌}
+use mathlib.Core.List.{[], ◌∷◌, ◌++◌}
 use Rattle.answer.specs.Text.{space, line_feed}
 use Rattle.sheet.specs.Sheet.{decimal}
 use Rattle.sheet.proofs.Rooms.{two_digits}

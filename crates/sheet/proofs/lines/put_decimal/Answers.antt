@@ -1,5 +1,5 @@
 -- `put_decimal` stores one digit below 10, and two from 10 on.
-use mathlib.Core.List.{◌∷◌}
+use mathlib.Core.List.{[], ◌∷◌}
 use Rattle.answer.proofs.Texts.{then}
 use Rattle.sheet.proofs.Rooms.{below_ten, from_ten}
 use Rattle.sheet.proofs.lines.put_decimal.Goals as goal

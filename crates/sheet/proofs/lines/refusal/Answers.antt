@@ -1,5 +1,5 @@
 -- `refusal`: the mark of a refusal, and then its number.
-use mathlib.Core.List.{◌∷◌, ◌++◌}
+use mathlib.Core.List.{[], ◌∷◌, ◌++◌}
 use Rattle.answer.specs.Text.{line_feed}
 use Rattle.sheet.specs.Sheet.{decimal}
 use Rattle.answer.proofs.Texts.{then}

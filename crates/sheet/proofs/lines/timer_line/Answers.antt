@@ -1,7 +1,7 @@
 -- `timer_line`: its letter, and then a refusal or a slot.
 use Prim.Native.Nat.{ℕ}
 use mathlib.Core.Path.{◌≡◌, refl}
-use mathlib.Core.List.{List, ◌∷◌, ◌++◌}
+use mathlib.Core.List.{[], List, ◌∷◌, ◌++◌}
 use denote.Enum.Declared.{tag_of}
 use types.Run.{OneOf, miss}
 use Rattle.answer.specs.Answer.{refused, number}
