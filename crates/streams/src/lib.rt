@@ -1,7 +1,9 @@
 // Standard input and output for the programs that read a sheet. What cannot be read or written is told on standard error.
 #![tactic(auto)]
 
-ghost use Rattle.std.specs.Prelude.{◌≡◌, ◌≤◌, length, take};
+ghost use Rattle.std.specs.Prelude.{◌≡◌, ◌↔◌, ◌<◌, ◌≤◌, false, IfErr, IfOk, OnErr, OnOk, IsTrue, length, min, take};
+ghost use Rattle.std.specs.Io.KnownBytes.{Appends, Consumes, IsAtEnd};
+ghost use Rattle.std.specs.IoError.{error_kind};
 
 use std::io::{Cursor, Error, ErrorKind, Read, Result, Write};
 use std::str;
@@ -9,7 +11,10 @@ use std::str;
 // A read that is interrupted is tried again. Nothing says that this ends, so at the thousandth time it is one that failed.
 const TRIES: u32 = 1000;
 
-fn interrupted(got: &Result<usize>) -> bool {
+fn interrupted(got: &Result<usize>) -> bool
+    ensures ok { OnOk got.now (result ≡ false) }
+    ensures err { IfErr got.now (λ e. IsTrue result ↔ (error_kind e ≡ ErrorKind.Interrupted)) }
+{
     match got {
         Ok(_) => false,
         Err(e) => e.kind() == ErrorKind::Interrupted,
@@ -52,6 +57,9 @@ pub struct Got {
 fn given<E: Write>(told: &mut E, got: Result<usize>, piece: &[u8], failed: &[u8]) -> Got
     ensures prefix_len { result.count ≤ length piece.now }
     ensures counted { result.count ≡ length (take result.count piece.now) }
+    ensures count { IfOk got (λ n. result.count ≡ min n (length piece.now)) }
+    ensures none { OnErr got (result.count ≡ 0) }
+    ensures ended { IsTrue result.ended → got ≡ Ok 0 }
 {
     match got {
         Ok(n) => Got {
@@ -73,6 +81,8 @@ pub fn read<R: Read, E: Write>(from: &mut R, told: &mut E, piece: &mut [u8], fai
     ensures prefix_len { result.count ≤ length piece.new }
     ensures counted { result.count ≡ length (take result.count piece.new) }
     ensures failed_value { failed.now ≡ failed.now }
+    ensures bytes { Consumes (R.remaining from.old) (R.remaining from.new) (take result.count piece.new) }
+    ensures end { IsTrue result.ended → 0 < length piece.old → IsAtEnd (R.remaining from.new) }
 {
     for _ in 1..TRIES {
         let got = from.read(piece);
@@ -92,7 +102,9 @@ pub fn write<W: Write, E: Write>(
     n: usize,
     failed: &[u8],
 ) -> bool
-    ensures { (out.now ≡ out.now) × (failed.now ≡ failed.now) }
+    ensures lent_value { (out.now ≡ out.now) × (failed.now ≡ failed.now) }
+    ensures enough { IsTrue result → n ≤ length out.now }
+    ensures bytes { IsTrue result → Appends (W.contents to.old) (W.contents to.new) (take n out.now) }
 {
     let mut error = Error::from(ErrorKind::InvalidInput);
     if n <= out.len() {
