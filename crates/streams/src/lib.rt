@@ -1,19 +1,49 @@
 // Standard input and output for the programs that read a sheet. What cannot be read or written is told on standard error.
 #![tactic(auto)]
 
-ghost use Rattle.std.specs.Prelude.{◌≡◌};
-ghost use Rattle.io.specs.Counts.{IsPrefixLen};
+ghost use Rattle.std.specs.Prelude.{◌≡◌, ◌↔◌, ◌<◌, ◌≤◌, false, IfErr, IfOk, OnErr, OnOk, IsTrue, length, min, take};
+ghost use Rattle.std.specs.Io.KnownBytes.{Appends, Consumes, IsAtEnd};
+ghost use Rattle.std.specs.IoError.{error_kind};
 
-use libc::{EINTR, STDIN_FILENO, STDOUT_FILENO};
+use std::io::{Cursor, Error, ErrorKind, Read, Result, Write};
+use std::str;
 
 // A read that is interrupted is tried again. Nothing says that this ends, so at the thousandth time it is one that failed.
 const TRIES: u32 = 1000;
 
-fn interrupted(got: isize) -> bool {
-    if got < 0 {
-        return os::errno() == EINTR;
+fn interrupted(got: &Result<usize>) -> bool
+    ensures ok { OnOk got.now (result ≡ false) }
+    ensures err { IfErr got.now (λ e. IsTrue result ↔ (error_kind e ≡ ErrorKind.Interrupted)) }
+{
+    match got {
+        Ok(_) => false,
+        Err(e) => e.kind() == ErrorKind::Interrupted,
     }
-    false
+}
+
+// The system's words for an error: what is printed of it, without the number that stands behind them.
+fn words(printed: &[u8]) -> &[u8] {
+    match str::from_utf8(printed) {
+        Ok(text) => match text.rsplit_once(" (os error ") {
+            Some((words, _)) => words.as_bytes(),
+            None => printed,
+        },
+        Err(_) => printed,
+    }
+}
+
+// A line of what failed, and why. Where that cannot be told either, nothing is.
+fn tell<E: Write>(told: &mut E, failed: &[u8], error: &Error) {
+    let mut printed = Cursor::new([0u8; 256]);
+    let _ = write!(printed, "{error}");
+    let n = printed.position();
+    let text = printed.into_inner();
+    let _ = told.write_all(failed);
+    let _ = told.write_all(b": ");
+    if n <= 256 {
+        let _ = told.write_all(words(&text[..n as usize]));
+    }
+    let _ = told.write_all(b"\n");
 }
 
 // What a read gave: how many bytes at the start of the piece, and whether the input has ended. One that fails gives none, as the end
@@ -24,43 +54,65 @@ pub struct Got {
     pub ended: bool,
 }
 
-fn given(got: isize, piece: &[u8], failed: &[u8]) -> Got
-    ensures { IsPrefixLen result.count piece.now }
+fn given<E: Write>(told: &mut E, got: Result<usize>, piece: &[u8], failed: &[u8]) -> Got
+    ensures prefix_len { result.count ≤ length piece.now }
+    ensures counted { result.count ≡ length (take result.count piece.now) }
+    ensures count { IfOk got (λ n. result.count ≡ min n (length piece.now)) }
+    ensures none { OnErr got (result.count ≡ 0) }
+    ensures ended { IsTrue result.ended → got ≡ Ok 0 }
 {
-    if got < 0 {
-        os::fail(failed);
-    }
-    Got {
-        count: io::count(got, piece),
-        ended: got == 0,
+    match got {
+        Ok(n) => Got {
+            count: n.min(piece.len()),
+            ended: n == 0,
+        },
+        Err(e) => {
+            tell(told, failed, &e);
+            Got {
+                count: 0,
+                ended: false,
+            }
+        }
     }
 }
 
 // One read, tried again where it is interrupted; where it fails, `failed` is told.
-pub fn read(piece: &mut [u8], failed: &[u8]) -> Got
-    ensures prefix_len { IsPrefixLen result.count piece.new }
+pub fn read<R: Read, E: Write>(from: &mut R, told: &mut E, piece: &mut [u8], failed: &[u8]) -> Got
+    ensures prefix_len { result.count ≤ length piece.new }
+    ensures counted { result.count ≡ length (take result.count piece.new) }
     ensures failed_value { failed.now ≡ failed.now }
+    ensures bytes { Consumes (R.remaining from.old) (R.remaining from.new) (take result.count piece.new) }
+    ensures end { IsTrue result.ended → 0 < length piece.old → IsAtEnd (R.remaining from.new) }
 {
-    let mut tries = TRIES;
-    while tries > 0 {
-        let got = libc::read(STDIN_FILENO, piece);
-        if !interrupted(got) {
-            return given(got, piece, failed);
+    for _ in 1..TRIES {
+        let got = from.read(piece);
+        if !interrupted(&got) {
+            return given(told, got, piece, failed);
         }
-        tries -= 1;
     }
-    given(-1, piece, failed)
+    let got = from.read(piece);
+    given(told, got, piece, failed)
 }
 
 // The first n bytes; where they cannot be written, or there are not so many, `failed` is told.
-pub fn write(out: &[u8], n: usize, failed: &[u8]) -> bool
-    ensures { (out.now ≡ out.now) × (failed.now ≡ failed.now) }
+pub fn write<W: Write, E: Write>(
+    to: &mut W,
+    told: &mut E,
+    out: &[u8],
+    n: usize,
+    failed: &[u8],
+) -> bool
+    ensures lent_value { (out.now ≡ out.now) × (failed.now ≡ failed.now) }
+    ensures enough { IsTrue result → n ≤ length out.now }
+    ensures bytes { IsTrue result → Appends (W.contents to.old) (W.contents to.new) (take n out.now) }
 {
+    let mut error = Error::from(ErrorKind::InvalidInput);
     if n <= out.len() {
-        if io::write_all(STDOUT_FILENO, &out[..n]) {
-            return true;
+        match to.write_all(&out[..n]) {
+            Ok(()) => return true,
+            Err(e) => error = e,
         }
     }
-    os::fail(failed);
+    tell(told, failed, &error);
     false
 }

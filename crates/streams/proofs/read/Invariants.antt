@@ -1,10 +1,7 @@
--- `read`'s loop: the measure is the number of tries that are left; the piece keeps its length.
-use mathlib.Core.Path.{◌≡◌}
-use lib.ListN.{length}
+-- `read`: the piece keeps its length, and a read that was interrupted has given nothing.
+use Rattle.std.proofs.Common.{◌≡◌, length}
+use Rattle.std.specs.Io.KnownBytes.{Keeps}
 use Rattle.streams.proofs.read.Given as goal
 
-abbrev pub invariant-loop-tries : goal.invariant-loop-tries
-invariant-loop-tries l = length l.piece ≡ length l.failed
-
-abbrev pub decreases-loop-tries : goal.decreases-loop-tries
-decreases-loop-tries l = l.tries
+abbrev pub invariant-loop : goal.invariant-loop
+invariant-loop g l = (length l.piece ≡ length l.initial.piece) × Keeps (g.R.Read.remaining l.initial.from) (g.R.Read.remaining l.from)
