@@ -47,7 +47,7 @@ returns-then-year-pil c =
 
 pub overflow_cast-opens : goal.overflow_cast-opens
 overflow_cast-opens c =
-    record { fits = opens_fits _ _ c.real_in.ensures c.if-year-pil.false c.parts-p.ensures c.day_number-date.ensures c.Opening-of.ensures }
+    record { fits = opens_fits _ _ c.real_in.ensures c.if-year-pil.false c.parts-p.ensures c.day_number-date.ensures c.opening_of-opens.ensures }
 
 pub overflow_cast-closes : goal.overflow_cast-closes
 overflow_cast-closes c =
@@ -55,4 +55,4 @@ overflow_cast-closes c =
 
 pub returns : goal.returns
 returns c =
-    gives _ _ c.real_in.ensures c.if-year-pil.false c.parts-p.ensures c.day_number-date.ensures c.Opening-of.ensures c.closing_of-closes.ensures
+    gives _ _ c.real_in.ensures c.if-year-pil.false c.parts-p.ensures c.day_number-date.ensures c.opening_of-opens.ensures c.closing_of-closes.ensures

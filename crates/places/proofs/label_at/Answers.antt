@@ -6,4 +6,4 @@ use borrow.Author.Rules.{rules}
 use Rattle.places.proofs.label_at.Goals as goal
 
 pub returns : goal.returns
-returns c = let a = c.args in c.no_label.ensures ∙ sym (get_or-eq_default a.t1 no_label {n = a.p} (search rules))
+returns c = let a = c.args in c.no_label.ensures ∙ sym (get_or-eq_default a.places no_label {n = a.p} (search rules))

@@ -20,15 +20,15 @@ returns-in-NoMatch c = rw (judged (goal.at.returns-in-NoMatch c).After-judge-ver
 
 pub returns-in-NotReal : goal.returns-in-NotReal
 unfolding updating
-returns-in-NotReal c = rw (judged (goal.at.returns-in-NotReal c).After-judge-verdict, c.enum_told-in-NotReal-1.given.1, c.refuse-in-NotReal.ensures) (refl, refl)
+returns-in-NotReal c = rw (judged (goal.at.returns-in-NotReal c).After-judge-verdict, c.in-NotReal.is, c.refuse-in-NotReal.ensures) (refl, refl)
 
 pub returns-in-Ended : goal.returns-in-Ended
 unfolding updating
-returns-in-Ended c = rw (judged (goal.at.returns-in-Ended c).After-judge-verdict, c.enum_told-in-Ended-1.given.1, c.refuse-in-Ended.ensures) (refl, refl)
+returns-in-Ended c = rw (judged (goal.at.returns-in-Ended c).After-judge-verdict, c.in-Ended.is, c.refuse-in-Ended.ensures) (refl, refl)
 
 pub returns-in-Repeats : goal.returns-in-Repeats
 unfolding updating
-returns-in-Repeats c = rw (judged (goal.at.returns-in-Repeats c).After-judge-verdict, c.enum_told-in-Repeats-1.given.1, c.repeat.ensures) (refl, refl)
+returns-in-Repeats c = rw (judged (goal.at.returns-in-Repeats c).After-judge-verdict, c.in-Repeats.is, c.repeat.ensures) (refl, refl)
 
 pub returns-in-Moves : goal.returns-in-Moves
 unfolding updating

@@ -2,7 +2,7 @@
 use Rattle.desk.proofs.asking.state_of.Goals as goal
 
 pub returns-in-Prepared : goal.returns-in-Prepared
-returns-in-Prepared c = rw c.enum_told-in-Prepared-1.given.1
+returns-in-Prepared c = rw c.in-Prepared.is
 
 pub returns-in-Recording : goal.returns-in-Recording
 returns-in-Recording c = rw c.in-Recording.is
@@ -11,4 +11,4 @@ pub returns-in-RunningOn : goal.returns-in-RunningOn
 returns-in-RunningOn c = rw c.in-RunningOn.is
 
 pub returns-in-ByTheClock : goal.returns-in-ByTheClock
-returns-in-ByTheClock c = rw c.enum_told-in-ByTheClock-1.given.1
+returns-in-ByTheClock c = rw c.in-ByTheClock.is

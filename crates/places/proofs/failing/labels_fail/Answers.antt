@@ -11,8 +11,8 @@ pub returns-then-tuner-gt3 : goal.returns-then-tuner-gt3
 unfolding labels_fail stands timer_control
 returns-then-tuner-gt3 c =
     let a = c.args in
-    let past : (lci : ℕ) → get_or a.t2 (a.tuner * 4 + lci) no_label ≡ no_label =
-    λ lci. get_or-eq_default a.t2 no_label {n = a.tuner * 4 + lci} (search rules) in
+    let past : (lci : ℕ) → get_or a.places (a.tuner * 4 + lci) no_label ≡ no_label =
+    λ lci. get_or-eq_default a.places no_label {n = a.tuner * 4 + lci} (search rules) in
     rw (past 0, past 1, past 2, past 3) refl
 
 pub returns : goal.returns

@@ -1,7 +1,7 @@
 -- By whether the label stands.
 use mathlib.Core.Bool.{true, false}
 use mathlib.Core.Path.{◌≡◌, sym, ◌∙◌}
-use Rattle.places.specs.Places.{stands, is_timer_control, timer_control}
+use Rattle.places.specs.Places.{stands, timer_control}
 use Rattle.places.proofs.failing.timer_control.Goals as goal
 
 pub returns-then-up : goal.returns-then-up
