@@ -9,7 +9,6 @@ use Rattle.answer.proofs.Cases.{both_true}
 use Rattle.group.specs.Group.{joined, or_other, group_by, group_of, bits_of}
 use Rattle.group.specs.Group.{is_row, row_of, address_of, offset_bits, top_bit, six_bits, flagged, decimal, figures}
 use Rattle.group.specs.Laws.{is_row_number, fits_offset, fits}
-use Rattle.group.specs.declared.Offset.{Offset}
 use Rattle.group.specs.declared.Group.{Group}
 use Rattle.group.specs.declared.Group.TheVariants as group
 use Rattle.group.proofs.Bits.{joined_apart, addressed, decimal_figures, flag_apart, offset_back}

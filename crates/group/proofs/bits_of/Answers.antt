@@ -38,4 +38,4 @@ returns-in-Series c = rw (c.in-Series.is, c.joined-in-Series.ensures) refl
 
 pub returns-in-Terminator : goal.returns-in-Terminator
 unfolding bits_of
-returns-in-Terminator c = rw (c.enum_told-in-Terminator-1.given.1, c.joined-in-Terminator.ensures) refl
+returns-in-Terminator c = rw (c.in-Terminator.is, c.joined-in-Terminator.ensures) refl

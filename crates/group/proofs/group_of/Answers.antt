@@ -1,7 +1,7 @@
 -- `group_of`: by the mode.
-use Prim.Native.Nat.{ℕ, ◌/◌, ◌%◌}
-use mathlib.Core.Path.{◌≡◌, refl, sym, ap, ◌∙◌}
-use borrow.Author.Tests.{ne_eqb}
+use Prim.Native.Nat.{ℕ}
+use mathlib.Core.Path.{◌≡◌, sym, ap, ◌∙◌}
+use Rattle.std.proofs.Common.{rules}
 use Rattle.group.specs.Group.{word_a, mode, word_b, group_by, group_of}
 use Rattle.group.specs.declared.Group.{Group}
 use Rattle.group.proofs.group_of.Goals as goal
@@ -37,16 +37,4 @@ returns-in-31 c = known c.args.v 0b11111 c.in-31.is c.end.ensures
 
 pub returns-in_default : goal.returns-in_default
 unfolding group_of
-returns-in_default c =
-    let m = c.args.v / 64 % 32 in
-    let n = c.match.rest in
-    rw (
-      ne_eqb m 0b01000 n.0.0.0.0.0.0.0.1,
-      ne_eqb m 0b01001 n.0.0.0.0.0.0.1,
-      ne_eqb m 0b01100 n.0.0.0.0.0.1,
-      ne_eqb m 0b01010 n.0.0.0.0.1,
-      ne_eqb m 0b00110 n.0.0.0.1,
-      ne_eqb m 0b01011 n.0.0.1,
-      ne_eqb m 0b01101 n.0.1,
-      ne_eqb m 0b11111 n.1,
-    ) refl
+returns-in_default c = search rules
