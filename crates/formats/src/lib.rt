@@ -55,6 +55,7 @@ fn concealed_in(k: Colour) -> Start
     }
 }
 
+#[tactic(auto, unfolding(crate::specs::Formats::start_of))]
 pub fn start_of(k: Colour, c: u8) -> Start
     ensures { result ≡ start_of k c }
 {

@@ -2,7 +2,7 @@
 use borrow.Author.Rules.{rules}
 use Prim.Native.Nat.{ℕ, zero, suc, ◌≤◌}
 use mathlib.Core.Bool.{Bool, true, false, cond}
-use mathlib.Core.List.{List, ◌∷◌}
+use mathlib.Core.List.{List, [], ◌∷◌}
 use mathlib.Core.Path.{◌≡◌, refl, sym, ◌∙◌}
 use native.Mathlib.Omega.{arith}
 use borrow.Author.Tests.{le-leb, lt-leb, eqb-true}
@@ -80,10 +80,10 @@ pub returns-then-shown : goal.returns-then-shown
 returns-then-shown c =
     let a = c.args in
     let few : a.n ≤ 11 = omega arith in
-    found a.s a.n a.t3 true few (search rules) c.kind_by-kind.ensures (sym c.if-shown.true ∙ c.shown.ensures)
+    found a.s a.n a.codes true few (search rules) c.kind_by-kind.ensures (sym c.if-shown.true ∙ c.shown.ensures)
 
 pub returns : goal.returns
 returns c =
     let a = c.args in
     let few : a.n ≤ 11 = omega arith in
-    found a.s a.n a.t3 false few (search rules) c.kind_by-kind.ensures (sym c.if-shown.false ∙ c.shown.ensures)
+    found a.s a.n a.codes false few (search rules) c.kind_by-kind.ensures (sym c.if-shown.false ∙ c.shown.ensures)

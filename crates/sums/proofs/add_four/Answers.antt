@@ -7,6 +7,3 @@ pub overflow_add-result : goal.overflow_add-result
 overflow_add-result c =
     let a = c.args in
     omega (arith, figure_small a.c, figure_small a.d, figure_small a.e, figure_small a.f)
-
-pub returns : goal.returns
-returns c = omega arith

@@ -38,50 +38,50 @@ unfolding counted
 returns-in-Single c =
     let cs = c.args.c in
     let all : length cs ≡ 11 = search rules in
-    rw (c.enum_told-in-Single-1.given.1, c.add_four.ensures, eleven cs all) (omega arith)
+    rw (c.in-Single.is, c.add_four.ensures, eleven cs all) (omega arith)
 
 pub returns-in-Double : goal.returns-in-Double
 unfolding counted
 returns-in-Double c =
     let cs = c.args.c in
     let all : length cs ≡ 11 = search rules in
-    rw (c.enum_told-in-Double-1.given.1, c.add_four-in-Double.ensures, c.add_four-in-Double-2.ensures, eleven cs all) (omega arith)
+    rw (c.in-Double.is, c.add_four-in-Double.ensures, c.add_four-in-Double-2.ensures, eleven cs all) (omega arith)
 
 pub returns-in-Original : goal.returns-in-Original
 unfolding counted
 returns-in-Original c =
     let cs = c.args.c in
     let all : length cs ≡ 11 = search rules in
-    rw (c.enum_told-in-Original-1.given.1, c.add_four-in-Original.ensures, eleven cs all) (omega arith)
+    rw (c.in-Original.is, c.add_four-in-Original.ensures, eleven cs all) (omega arith)
 
 pub returns-in-Date : goal.returns-in-Date
 unfolding counted
 returns-in-Date c =
     let cs = c.args.c in
     let all : length cs ≡ 11 = search rules in
-    rw (c.enum_told-in-Date-1.given.1, c.add_three.ensures, c.add_three-in-Date.ensures, eleven cs all) (omega arith)
+    rw (c.in-Date.is, c.add_three.ensures, c.add_three-in-Date.ensures, eleven cs all) (omega arith)
 
 pub returns-in-Network : goal.returns-in-Network
 unfolding counted
 returns-in-Network c =
     let cs = c.args.c in
     let all : length cs ≡ 11 = search rules in
-    rw (c.enum_told-in-Network-1.given.1, c.add_two.ensures, c.add_three-in-Network.ensures, eleven cs all) (omega arith)
+    rw (c.in-Network.is, c.add_two.ensures, c.add_three-in-Network.ensures, eleven cs all) (omega arith)
 
 pub returns-in-Offset : goal.returns-in-Offset
 unfolding counted
 returns-in-Offset c =
     let cs = c.args.c in
     let all : length cs ≡ 11 = search rules in
-    rw (c.enum_told-in-Offset-1.given.1, c.add_three-in-Offset.ensures, eleven cs all) (omega arith)
+    rw (c.in-Offset.is, c.add_three-in-Offset.ensures, eleven cs all) (omega arith)
 
 pub returns-in-Pty : goal.returns-in-Pty
 unfolding counted
 returns-in-Pty c =
     let cs = c.args.c in
     let all : length cs ≡ 11 = search rules in
-    rw (c.enum_told-in-Pty-1.given.1, c.add_three-in-Pty.ensures, eleven cs all) (omega arith)
+    rw (c.in-Pty.is, c.add_three-in-Pty.ensures, eleven cs all) (omega arith)
 
 pub returns-in-Word : goal.returns-in-Word
 unfolding counted
-returns-in-Word c = rw c.enum_told-in-Word-1.given.1 refl
+returns-in-Word c = rw c.in-Word.is refl
