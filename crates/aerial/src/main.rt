@@ -6,6 +6,7 @@ ghost use Rattle.std.proofs.lemmas.List.Edits.{sets};
 ghost use Rattle.report.specs.Room.{longest};
 ghost use Rattle.tally.specs.Pieces.{end_told};
 
+use std::io::{Read, Write};
 use tally::Tally;
 
 // A report that finds room is stored whole.
@@ -24,9 +25,14 @@ struct Turn {
 }
 
 // One piece.
-fn count_piece(tally: Tally) -> Turn {
-    let mut piece = io::buffer();
-    let got = streams::read(&mut piece, b"aerial: the input could not be read");
+fn count_piece<R: Read, E: Write>(from: &mut R, told: &mut E, tally: Tally) -> Turn {
+    let mut piece = [0u8; 4096];
+    let got = streams::read(
+        from,
+        told,
+        &mut piece,
+        b"aerial: the input could not be read",
+    );
     let n = got.count;
     let next = tally.feed(&piece[..n]);
     Turn {
@@ -37,18 +43,27 @@ fn count_piece(tally: Tally) -> Turn {
 }
 
 // Reads up to the input's end, and no further than bytes decide something.
-fn main() {
+fn main(rt: HostRuntime) {
+    let mut from = rt.stdin();
+    let mut to = rt.stdout();
+    let mut told = rt.stderr();
     let mut tally = Tally::new();
     let mut left = items::deciding();
     let mut ended = false;
     while left > 0 {
-        let t = count_piece(tally);
+        let t = count_piece(&mut from, &mut told, tally);
         let next = t.tally;
         tally = next;
         ended = t.ended;
         left = items::still_deciding(left, t.got, tally.left_over());
     }
-    let mut out = io::buffer();
+    let mut out = [0u8; 4096];
     let n = reported(tally, ended, &mut out);
-    streams::write(&out, n, b"aerial: the output could not be written");
+    streams::write(
+        &mut to,
+        &mut told,
+        &out,
+        n,
+        b"aerial: the output could not be written",
+    );
 }

@@ -2,87 +2,89 @@
 use crate::events::{RECORDER, Sequence};
 use crate::rows::OFF;
 use desk::Desk;
-use libc::STDOUT_FILENO;
 use reply::{AskAnswer, State};
+use std::io::Write;
 
-fn text(s: &[u8]) {
-    io::write_all(STDOUT_FILENO, s);
+// What cannot be written is left out.
+fn text<W: Write>(to: &mut W, s: &[u8]) {
+    let _ = to.write_all(s);
 }
 
 fn digit(n: u32) -> u8 {
     b'0' + (n % 10) as u8
 }
 
-fn two(n: u32) {
+fn two<W: Write>(to: &mut W, n: u32) {
     let digits = [digit(n / 10), digit(n)];
-    text(&digits);
+    text(to, &digits);
 }
 
-fn hour_and_minute(n: u32) {
-    two(n / 100);
-    text(b":");
-    two(n);
+fn hour_and_minute<W: Write>(to: &mut W, n: u32) {
+    two(to, n / 100);
+    text(to, b":");
+    two(to, n);
 }
 
-fn time(at: u32) {
-    hour_and_minute(at / 100);
-    text(b":");
-    two(at);
+fn time<W: Write>(to: &mut W, at: u32) {
+    hour_and_minute(to, at / 100);
+    text(to, b":");
+    two(to, at);
 }
 
 // A place as tuner/LCI.
-fn place(p: u8) {
+fn place<W: Write>(to: &mut W, p: u8) {
     let digits = [b'0' + p / 4 % 4, b'/', b'0' + p % 4];
-    text(&digits);
+    text(to, &digits);
 }
 
-fn state(s: State) {
+fn state<W: Write>(to: &mut W, s: State) {
     match s {
-        State::Waiting => text(b"waiting"),
-        State::Prepared => text(b"prepared"),
+        State::Waiting => text(to, b"waiting"),
+        State::Prepared => text(to, b"prepared"),
         State::Recording { place: p } => {
-            text(b"recording ");
-            place(p);
+            text(to, b"recording ");
+            place(to, p);
         }
         State::RunningOn { place: p } => {
-            text(b"running on ");
-            place(p);
+            text(to, b"running on ");
+            place(to, p);
         }
-        State::Ended => text(b"ended"),
-        State::ByTheClock => text(b"by the clock"),
+        State::Ended => text(to, b"ended"),
+        State::ByTheClock => text(to, b"by the clock"),
     }
 }
 
-fn answer(a: AskAnswer) {
+fn answer<W: Write>(to: &mut W, a: AskAnswer) {
     match a {
-        AskAnswer::NoTimer => text(b"no timer"),
-        AskAnswer::Says(s) => state(s),
+        AskAnswer::NoTimer => text(to, b"no timer"),
+        AskAnswer::Says(s) => state(to, s),
     }
 }
 
-fn event(desk: Desk, slot: usize, e: u32) {
+fn event<W: Write>(to: &mut W, desk: Desk, slot: usize, e: u32) {
     if e == OFF {
         return;
     }
-    text(b" | VCR");
+    text(to, b" | VCR");
     let recorder = [digit(e / RECORDER)];
-    text(&recorder);
-    text(b" ");
-    hour_and_minute(e);
-    text(b" ");
+    text(to, &recorder);
+    text(to, b" ");
+    hour_and_minute(to, e);
+    text(to, b" ");
     let a = desk.ask(slot);
-    answer(a);
+    answer(to, a);
 }
 
-pub(crate) fn print(desk: Desk, s: Sequence, at: u32) {
+pub(crate) fn print<W: Write>(to: &mut W, desk: Desk, s: Sequence, at: u32) {
     let events = s.events;
-    io::print_decimal(STDOUT_FILENO, s.number as u64);
-    text(b" ");
-    time(at);
-    event(desk, 0, events[0]);
-    event(desk, 1, events[1]);
-    event(desk, 2, events[2]);
-    event(desk, 3, events[3]);
-    event(desk, 4, events[4]);
-    text(b"\n");
+    let number = s.number;
+    let _ = write!(to, "{number}");
+    text(to, b" ");
+    time(to, at);
+    event(to, desk, 0, events[0]);
+    event(to, desk, 1, events[1]);
+    event(to, desk, 2, events[2]);
+    event(to, desk, 3, events[3]);
+    event(to, desk, 4, events[4]);
+    text(to, b"\n");
 }

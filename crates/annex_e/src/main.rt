@@ -10,11 +10,12 @@ mod rows; // what each label channel carries, from the annex's tables
 
 use events::{SEQUENCE_COUNT, SEQUENCES};
 
-fn main() {
+fn main(rt: HostRuntime) {
+    let mut to = rt.stdout();
     let mut i: usize = 0;
     while i < SEQUENCE_COUNT {
         let s = SEQUENCES[i];
-        play::play(s);
+        play::play(&mut to, s);
         i += 1;
     }
 }

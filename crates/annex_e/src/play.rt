@@ -5,6 +5,7 @@ use crate::numbers::{YEAR, label_of, pil_of, second_of};
 use crate::rows::{DAY, NEVER, OFF, ROW_LIMIT, Row, row_of};
 use desk::Desk;
 use label::Label;
+use std::io::Write;
 
 // Each sequence is of one station, and its tuner is the home tuner of every event.
 const TUNER: u8 = 0;
@@ -80,7 +81,7 @@ fn end_of(month: u8, at: u32, next: u32) -> u32 {
     until
 }
 
-fn play_row(desk: Desk, s: Sequence, row: Row, next: u32) -> Desk {
+fn play_row<W: Write>(to: &mut W, desk: Desk, s: Sequence, row: Row, next: u32) -> Desk {
     let at = row.0;
     let sent = row.1;
     let from = second_of(s.month, at);
@@ -88,11 +89,11 @@ fn play_row(desk: Desk, s: Sequence, row: Row, next: u32) -> Desk {
     let heard = send_all(desk, s, from, sent);
     let waited = heard.wait(from);
     let d = waited.desk;
-    line::print(d, s, at);
+    line::print(to, d, s, at);
     repeat(d, s, from + 1, until, sent)
 }
 
-pub(crate) fn play(s: Sequence) {
+pub(crate) fn play<W: Write>(to: &mut W, s: Sequence) {
     let mut d = booked(s);
     let mut i: usize = 0;
     while i < ROW_LIMIT {
@@ -102,6 +103,6 @@ pub(crate) fn play(s: Sequence) {
         }
         i += 1;
         let next = row_of(s.number, i);
-        d = play_row(d, s, row, next.0);
+        d = play_row(to, d, s, row, next.0);
     }
 }

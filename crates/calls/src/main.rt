@@ -6,23 +6,23 @@ mod answers; // what a call says, and every slot after it
 mod rows; // the call that a row is
 
 use desk::Desk;
-use libc::{STDIN_FILENO, STDOUT_FILENO};
+use std::io::{Read, Write};
 
 // Nothing says that the input ends, so the loop counts its turns down, from a number that no run uses up.
-fn main() {
+fn main(rt: HostRuntime) {
+    let mut from = rt.stdin();
+    let mut to = rt.stdout();
     let mut d = Desk::new();
     let mut turns = u64::MAX;
     while turns > 0 {
         let mut row = [0u8; 128];
-        let n = io::read_full(STDIN_FILENO, &mut row);
-        if n < 128 {
+        if from.read_exact(&mut row).is_err() {
             return;
         }
         let said = rows::call(d, row);
         let next = said.desk;
         let out = answers::bytes_of(next, said.number, said.value);
-        let written = io::write_all(STDOUT_FILENO, &out);
-        if !written {
+        if to.write_all(&out).is_err() {
             return;
         }
         d = next;

@@ -6,6 +6,7 @@ ghost use Rattle.std.proofs.lemmas.List.Edits.{sets};
 ghost use Rattle.listing.specs.Pieces.{deciding, end_told, longest};
 
 use listing::Collected;
+use std::io::{Read, Write};
 
 // A listing that finds room is stored whole.
 fn reported(page: Collected, out: &mut [u8]) -> usize
@@ -23,11 +24,16 @@ struct Turn {
 }
 
 // One piece.
-fn collect_piece(page: Collected) -> Turn
+fn collect_piece<R: Read, E: Write>(from: &mut R, told: &mut E, page: Collected) -> Turn
     ensures { result.page.length ≡ min (page.length + result.got) deciding }
 {
-    let mut piece = io::buffer();
-    let got = streams::read(&mut piece, b"pages: the input could not be read");
+    let mut piece = [0u8; 4096];
+    let got = streams::read(
+        from,
+        told,
+        &mut piece,
+        b"pages: the input could not be read",
+    );
     let n = got.count;
     let next = page.feed(&piece[..n]);
     Turn {
@@ -39,12 +45,15 @@ fn collect_piece(page: Collected) -> Turn
 
 // Reads up to the input's end, and no further than bytes decide something. A page whose end was not seen is not listed: cut after a
 // packet, it would be another page.
-fn main() {
+fn main(rt: HostRuntime) {
+    let mut from = rt.stdin();
+    let mut to = rt.stdout();
+    let mut told = rt.stderr();
     let mut page = Collected::new();
     let mut more = true;
     let mut seen = false;
     while more {
-        let t = collect_piece(page);
+        let t = collect_piece(&mut from, &mut told, page);
         let next = t.page;
         page = next;
         let full = page.full();
@@ -52,8 +61,14 @@ fn main() {
         more = (t.got > 0) & !full;
     }
     if seen {
-        let mut out = io::large_buffer();
+        let mut out = [0u8; 65536];
         let n = reported(page, &mut out);
-        streams::write(&out, n, b"pages: the output could not be written");
+        streams::write(
+            &mut to,
+            &mut told,
+            &out,
+            n,
+            b"pages: the output could not be written",
+        );
     }
 }

@@ -5,6 +5,7 @@ ghost use Rattle.std.specs.Prelude.{◌+◌, ◌*◌, ◌≤◌, true, ◌≡◌
 ghost use Rattle.sheet.specs.Pieces.{longest};
 
 use sheet::{Closed, Fed, Sheet};
+use std::io::{Read, Write};
 
 // What a piece of 4,096 bytes may print.
 const SHARE: usize = 32768;
@@ -34,12 +35,18 @@ struct Turn {
 }
 
 // One piece.
-fn play_piece(sheet: Sheet, out: &mut [u8], at: usize) -> Turn
+fn play_piece<R: Read, E: Write>(
+    from: &mut R,
+    told: &mut E,
+    sheet: Sheet,
+    out: &mut [u8],
+    at: usize,
+) -> Turn
     requires { at + longest * 4096 ≤ length out.old }
     ensures { result.at ≤ at + longest * 4096 }
 {
-    let mut piece = io::buffer();
-    let got = streams::read(&mut piece, b"play: the input could not be read");
+    let mut piece = [0u8; 4096];
+    let got = streams::read(from, told, &mut piece, b"play: the input could not be read");
     let n = got.count;
     let fed = taken(sheet, &piece[..n], out, at);
     let next = fed.sheet;
@@ -51,8 +58,8 @@ fn play_piece(sheet: Sheet, out: &mut [u8], at: usize) -> Turn
     }
 }
 
-fn write(out: &[u8], at: usize) -> bool {
-    streams::write(out, at, b"play: the output could not be written")
+fn write<W: Write, E: Write>(to: &mut W, told: &mut E, out: &[u8], at: usize) -> bool {
+    streams::write(to, told, out, at, b"play: the output could not be written")
 }
 
 #[derive(Clone, Copy)]
@@ -62,28 +69,31 @@ struct Kept {
 }
 
 // A buffer that might not hold what another piece prints is written out, and begun anew.
-fn flush(out: &[u8], at: usize) -> Kept
+fn flush<W: Write, E: Write>(to: &mut W, told: &mut E, out: &[u8], at: usize) -> Kept
     ensures { result.at ≤ longest * 4096 }
 {
     if SHARE < at {
-        let written = write(out, at);
+        let written = write(to, told, out, at);
         return Kept { written, at: 0 };
     }
     Kept { written: true, at }
 }
 
 // Reads up to the input's end, and no further than bytes decide something. Output that cannot be written ends the program.
-fn main() {
-    let mut out = io::large_buffer();
+fn main(rt: HostRuntime) {
+    let mut from = rt.stdin();
+    let mut to = rt.stdout();
+    let mut told = rt.stderr();
+    let mut out = [0u8; 65536];
     let mut sheet = Sheet::new();
     let mut at: usize = 0;
     let mut left = items::deciding();
     let mut ended = false;
     while left > 0 {
-        let t = play_piece(sheet, &mut out, at);
+        let t = play_piece(&mut from, &mut told, sheet, &mut out, at);
         let next = t.sheet;
         sheet = next;
-        let kept = flush(&out, t.at);
+        let kept = flush(&mut to, &mut told, &out, t.at);
         if !kept.written {
             return;
         }
@@ -92,5 +102,5 @@ fn main() {
         left = items::still_deciding(left, t.got, sheet.left_over());
     }
     let last = closed(sheet, ended, &mut out, at);
-    write(&out, last.at);
+    write(&mut to, &mut told, &out, last.at);
 }

@@ -6,8 +6,8 @@ ghost use Rattle.std.specs.Prelude.{◌≡◌, List, ℕ, length};
 ghost use Rattle.section.specs.Asked.{after_piece};
 
 use answer::digit;
-use libc::STDERR_FILENO;
 use section::Asked;
+use std::io::{Read, Write};
 
 #[derive(Clone, Copy)]
 struct Turn {
@@ -17,11 +17,16 @@ struct Turn {
 }
 
 // One piece.
-fn collect_piece(asked: Asked) -> Turn
+fn collect_piece<R: Read, E: Write>(from: &mut R, told: &mut E, asked: Asked) -> Turn
     ensures { (p : List ℕ) × (length p ≡ result.got) × (result.asked ≡ after_piece p asked) }
 {
-    let mut piece = io::buffer();
-    let got = streams::read(&mut piece, b"timers: the input could not be read");
+    let mut piece = [0u8; 4096];
+    let got = streams::read(
+        from,
+        told,
+        &mut piece,
+        b"timers: the input could not be read",
+    );
     let n = got.count;
     let next = asked.feed(&piece[..n]);
     Turn {
@@ -32,20 +37,22 @@ fn collect_piece(asked: Asked) -> Turn
 }
 
 // 'A refused page gives its number on standard error': each has two digits.
-fn tell_refused(number: u8) {
+fn tell_refused<E: Write>(told: &mut E, number: u8) {
     let n = number as usize;
-    io::write_all(STDERR_FILENO, b"timers: refused ");
-    io::write_all(STDERR_FILENO, &[digit(n / 10), digit(n), b'\n']);
+    let _ = told.write_all(b"timers: refused ");
+    let _ = told.write_all(&[digit(n / 10), digit(n), b'\n']);
 }
 
-fn close(asked: Asked) {
+fn close<W: Write, E: Write>(to: &mut W, told: &mut E, asked: Asked) {
     let section = asked.section();
     if section.number != 0 {
-        tell_refused(section.number);
+        tell_refused(told, section.number);
         return;
     }
     let bytes = section.bytes;
     streams::write(
+        to,
+        told,
         &bytes,
         section.length,
         b"timers: the output could not be written",
@@ -54,12 +61,15 @@ fn close(asked: Asked) {
 
 // Reads up to the input's end, and no further than bytes decide something. Of a page whose end was not seen nothing is written: it may
 // be longer.
-fn main() {
+fn main(rt: HostRuntime) {
+    let mut from = rt.stdin();
+    let mut to = rt.stdout();
+    let mut told = rt.stderr();
     let mut asked = Asked::new();
     let mut more = true;
     let mut seen = false;
     while more {
-        let t = collect_piece(asked);
+        let t = collect_piece(&mut from, &mut told, asked);
         let next = t.asked;
         asked = next;
         let full = asked.full();
@@ -67,6 +77,6 @@ fn main() {
         more = (t.got > 0) & !full;
     }
     if seen {
-        close(asked);
+        close(&mut to, &mut told, asked);
     }
 }
