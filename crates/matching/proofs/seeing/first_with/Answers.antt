@@ -1,5 +1,4 @@
 -- The loop's invariant: no place before p has the PIL.
-use Prim.Native.Nat.{◌-◌}
 use borrow.Author.Tests.{eq-eqb, ne_eqb}
 use mathlib.Core.Path.{refl}
 use Rattle.places.specs.Places.{no_label}

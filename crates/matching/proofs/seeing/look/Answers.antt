@@ -1,6 +1,6 @@
 -- The loop's invariant: what the whole look sees is what it sees from place i on, where `first` is the first place before it with a label of the
 -- programme.
-use Prim.Native.Nat.{◌+◌, ◌-◌}
+use Prim.Native.Nat.{◌+◌}
 use mathlib.Core.Path.{sym, ap, ◌∙◌}
 use borrow.Author.Tests.{le-leb, lt-leb}
 use borrow.Author.Rules.{rules}

@@ -7,7 +7,7 @@ use Rattle.rule.specs.Rule.{held}
 use Rattle.moving.proofs.judging.meant.Given as goal
 
 abbrev pub invariant-loop-i : goal.invariant-loop-i
-invariant-loop-i l = NotBefore (λ t. held t.copy && matches l.l.s t.booking l.l) l.l.timers l.i
+invariant-loop-i l = NotBefore (λ t. held t.copy && matches l.s t.booking l.l) l.timers l.i
 
 abbrev pub decreases-loop-i : goal.decreases-loop-i
 decreases-loop-i l = 16 - l.i

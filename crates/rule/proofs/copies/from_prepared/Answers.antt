@@ -13,7 +13,7 @@ returns-in-Nothing c =
 pub returns-in-Prepare : goal.returns-in-Prepare
 returns-in-Prepare c =
     let a = c.args in
-    let seen : sight_of a.s a.places a.b ≡ Sight.Prepare c.now-1.given.0.0 = sym c.sight_of-now.ensures ∙ c.in-Prepare.is in
+    let seen : sight_of a.s a.places a.b ≡ Sight.Prepare c.in-Prepare.q = sym c.sight_of-now.ensures ∙ c.in-Prepare.is in
     rw seen (rw c.kept_or_started-next.ensures at c.clock_or-in-Prepare.ensures)
 
 pub returns-in-Start : goal.returns-in-Start

@@ -1,7 +1,6 @@
 -- Each exit is a case of the definition: whether the label there still matches comes first, and says that the window is open.
 use mathlib.Core.Bool.{true, false}
 use mathlib.Core.Path.{◌≡◌, refl, sym, ◌∙◌}
-use borrow.Author.Tests.{not-true, not-false}
 use lib.ListN.{get_or}
 use Rattle.places.specs.Places.{no_label}
 use Rattle.matching.specs.Matching.{open_at, matches}
@@ -20,7 +19,7 @@ returns-then-still c =
 pub returns-then-not-open : goal.returns-then-not-open
 returns-then-not-open c =
     let a = c.args in
-    let shut : open_at a.s a.b ≡ false = sym c.open_at-open.ensures ∙ not-true _ c.if-not-open.true in
+    let shut : open_at a.s a.b ≡ false = sym c.open_at-open.ensures ∙ c.if-not-open.true in
     sym (live_shut a.s a.places a.b _ refl shut)
 
 pub returns-then-mi : goal.returns-then-mi
@@ -28,7 +27,7 @@ returns-then-mi c =
     let a = c.args in
     let gone : matches a.s a.b (get_or a.places a.p no_label) ≡ false =
     rw c.label_at-own.ensures at (sym c.matches-still.ensures ∙ c.if-still.false) in
-    let opened : open_at a.s a.b ≡ true = sym c.open_at-open.ensures ∙ not-false _ c.if-not-open.false in
+    let opened : open_at a.s a.b ≡ true = sym c.open_at-open.ensures ∙ c.if-not-open.false in
     let remembered : a.mi ≡ true = c.if-mi.true in
     rw (recording_leaves a.s a.places a.b a.p a.mi gone opened, remembered, ← c.sight_of-seen.ensures, moves_not_live) c.not_live.ensures
 
@@ -37,6 +36,6 @@ returns c =
     let a = c.args in
     let gone : matches a.s a.b (get_or a.places a.p no_label) ≡ false =
     rw c.label_at-own.ensures at (sym c.matches-still.ensures ∙ c.if-still.false) in
-    let opened : open_at a.s a.b ≡ true = sym c.open_at-open.ensures ∙ not-false _ c.if-not-open.false in
+    let opened : open_at a.s a.b ≡ true = sym c.open_at-open.ensures ∙ c.if-not-open.false in
     let remembered : a.mi ≡ false = c.if-mi.false in
     rw (recording_leaves a.s a.places a.b a.p a.mi gone opened, remembered, ← c.sight_of-seen.ensures) c.moves_or.ensures

@@ -3,7 +3,7 @@ use Prim.Native.Nat.{◌+◌}
 use mathlib.Core.Bool.{true, false}
 use mathlib.Core.Path.{◌≡◌, refl, sym, ◌∙◌}
 use native.Mathlib.Omega.{arith}
-use borrow.Author.Tests.{not-true, not-false}
+use borrow.Author.Tests.{lt-ltb, le-ltb}
 use lib.Dec.{ltb}
 use Rattle.matching.specs.Matching.{open_at}
 use Rattle.rule.specs.Rule.{run_for, from_running_on}
@@ -14,21 +14,21 @@ use Rattle.rule.proofs.copies.from_running_on.Goals as goal
 pub returns-then-not-open : goal.returns-then-not-open
 returns-then-not-open c =
     let a = c.args in
-    let shut : open_at a.s a.b ≡ false = sym c.open_at-open.ensures ∙ not-true _ c.if-not-open.true in
+    let shut : open_at a.s a.b ≡ false = sym c.open_at-open.ensures ∙ c.if-not-open.true in
     sym (live_shut a.s a.places a.b _ refl shut)
 
 pub returns-then-on : goal.returns-then-on
 unfolding from_running_on
 returns-then-on c =
     let a = c.args in
-    let opened : open_at a.s a.b ≡ true = sym c.open_at-open.ensures ∙ not-false _ c.if-not-open.false in
-    let on : ltb a.s (a.v + run_for) ≡ true = c.if-on.true in
+    let opened : open_at a.s a.b ≡ true = sym c.open_at-open.ensures ∙ c.if-not-open.false in
+    let on : ltb a.s (a.v + run_for) ≡ true = lt-ltb _ _ c.if-on.true in
     rw (running_on a.s a.places a.b a.p a.v opened, ← below a.s a.v run_for (λ l. omega arith), on, ← c.sight_of-seen.ensures) c.moves_or.ensures
 
 pub returns : goal.returns
 unfolding from_running_on
 returns c =
     let a = c.args in
-    let opened : open_at a.s a.b ≡ true = sym c.open_at-open.ensures ∙ not-false _ c.if-not-open.false in
-    let out : ltb a.s (a.v + run_for) ≡ false = c.if-on.false in
+    let opened : open_at a.s a.b ≡ true = sym c.open_at-open.ensures ∙ c.if-not-open.false in
+    let out : ltb a.s (a.v + run_for) ≡ false = le-ltb _ _ c.if-on.false in
     rw (running_on a.s a.places a.b a.p a.v opened, ← below a.s a.v run_for (λ l. omega arith), out, ← c.sight_of-seen.ensures, moves_not_live) c.not_live.ensures

@@ -6,4 +6,4 @@ use borrow.Author.Rules.{rules}
 use Rattle.sixteen.proofs.slots.timer_at.Goals as goal
 
 pub returns : goal.returns
-returns c = let a = c.args in c.no_timer.ensures ∙ sym (get_or-eq_default a.t1 no_timer {n = a.slot} (search rules))
+returns c = let a = c.args in c.no_timer.ensures ∙ sym (get_or-eq_default a.timers no_timer {n = a.slot} (search rules))
