@@ -1,6 +1,5 @@
 -- What a page's data groups mean, in the order in which they are sent: EN 300 231 clause 7.3.2.3 b) (document 02, #103).
 use Rattle.std.specs.Prelude.{ℕ, Bool, true, false, cond, not, ◌&&◌, ◌||◌, List, [], ◌∷◌, ◌++◌}
-use Rattle.group.specs.declared.Offset.{Offset}
 use Rattle.group.specs.declared.Offset.TheVariants.{East}
 use Rattle.group.specs.declared.Group.{Group}
 use Rattle.group.specs.declared.Group.TheVariants as group

@@ -1,6 +1,6 @@
 -- A page's data groups taken one at a time, as the reader takes them. What they mean is said in `programmes`, Meaning.antt; the laws
 -- say that this is the same.
-use Rattle.std.specs.Prelude.{ℕ, ◌+◌, ◌-◌, Bool, false, cond, not, ◌&&◌, ◌||◌, List, [], ◌∷◌, ◌++◌}
+use Rattle.std.specs.Prelude.{ℕ, Bool, false, cond, not, ◌&&◌, ◌||◌, List, [], ◌∷◌, ◌++◌}
 use Rattle.group.specs.declared.Group.{Group}
 use Rattle.group.specs.declared.Group.TheVariants as group
 use Rattle.programmes.specs.declared.Finish.{Finish}

@@ -1,5 +1,4 @@
 -- The loop's invariant: no programme before number i has a field outside its range.
-use Prim.Native.Nat.{◌-◌}
 use mathlib.Core.Path.{refl, sym, ap, ◌∙◌}
 use borrow.Author.Rules.{rules}
 use Rattle.answer.specs.Lists.{some}
@@ -16,19 +15,19 @@ pub returns-then-outside : goal.returns-then-outside
 returns-then-outside c =
     let a = c.args in
     let n = c.kept-n in
-    let q = next a.t1 n.result c.loop-i.i blank (search rules) (search rules) in
-    let all = kept a.t1 a.count 103 c.loop-i.invariant.2 n.ensures in
+    let q = next a.programmes n.result c.loop-i.i blank (search rules) (search rules) in
+    let all = kept a.programmes a.count 103 c.loop-i.invariant.2 n.ensures in
     hit _ _ _ q c.outside.ensures c.if-outside.true ∙ c.loop-i.invariant.3 ∙ ap (some outside) all
 
 pub loop-i-preserved : goal.loop-i-preserved
 loop-i-preserved c =
     let a = c.args in
-    let q = next a.t1 c.kept-n.result c.loop-i.i blank (search rules) (search rules) in
+    let q = next a.programmes c.kept-n.result c.loop-i.i blank (search rules) (search rules) in
     (search rules, search rules, search rules, miss _ _ _ q c.outside.ensures c.if-outside.false ∙ c.loop-i.invariant.3)
 
 pub returns : goal.returns
 returns c =
     let a = c.args in
-    let end = none_left a.t1 c.kept-n.result c.loop-i.i (search rules) (search rules) in
-    let all = kept a.t1 a.count 103 c.loop-i.invariant.2 c.kept-n.ensures in
+    let end = none_left a.programmes c.kept-n.result c.loop-i.i (search rules) (search rules) in
+    let all = kept a.programmes a.count 103 c.loop-i.invariant.2 c.kept-n.ensures in
     sym (ap (some outside) end) ∙ c.loop-i.invariant.3 ∙ ap (some outside) all

@@ -1,5 +1,4 @@
 -- The loop's invariant: the groups of the programmes from number i on, sent after those that are there, are all of them.
-use Prim.Native.Nat.{◌-◌}
 use mathlib.Core.Path.{refl, ap, ◌∙◌}
 use native.Mathlib.Omega.{arith}
 use lib.ListN.{take}
@@ -27,6 +26,6 @@ loop-i-preserved c =
 pub returns : goal.returns
 returns c =
     let a = c.args in
-    let end = none_left a.t1 c.kept-n.result c.loop-i.i (search rules) (search rules) in
-    let all = kept a.t1 a.count 103 c.loop-i.invariant.2 c.kept-n.ensures in
-    no_more c.loop-i.s.words c.loop-i.s.force end ∙ c.loop-i.invariant.4 ∙ all_sent (take c.kept-n.result a.t1) ∙ ap words_of all
+    let end = none_left a.programmes c.kept-n.result c.loop-i.i (search rules) (search rules) in
+    let all = kept a.programmes a.count 103 c.loop-i.invariant.2 c.kept-n.ensures in
+    no_more c.loop-i.s.words c.loop-i.s.force end ∙ c.loop-i.invariant.4 ∙ all_sent (take c.kept-n.result a.programmes) ∙ ap words_of all

@@ -10,6 +10,6 @@ pub returns : goal.returns
 unfolding sent
 returns c =
     let a = c.args in
-    let b : c.put.result ≡ set a.words.bits-1 a.words.count (bits_of a.g) =
-    c.put.ensures ∙ ap (set a.words.bits-1 a.words.count) c.bits_of.ensures in
+    let b : c.put.result ≡ set a.words.bits a.words.count (bits_of a.g) =
+    c.put.ensures ∙ ap (set a.words.bits a.words.count) c.bits_of.ensures in
     λ i. record { count = a.words.count + 1; bits = b i }
