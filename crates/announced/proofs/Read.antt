@@ -132,6 +132,7 @@ complete [] (Single a false) xs (t, w) = never w refl
 complete [] (Titled a r c) xs (t, ys, w, q) = never w refl
 complete [] (Double a z) xs (t, w) = never w refl
 complete [] Ended xs (t, ends) = (refl, refl)
+complete [] Wrong xs w = elim w [ ]
 complete (S b ∷ ms) First xs w = complete ms (Single b false) xs w
 complete (S b ∷ ms) (Single a true) xs (t, w) = never w refl
 complete (S b ∷ ms) (Single a false) xs (t, w) = never w refl
@@ -140,6 +141,7 @@ complete (S b ∷ ms) (Titled a r c) xs (t, ys, w, q) =
     (more.0, q ∙ rw (next_single w, more.1) refl)
 complete (S b ∷ ms) (Double a z) xs (t, w) = never w refl
 complete (S b ∷ ms) Ended xs (t, w) = complete ms (Single b false) xs (t, single_first w)
+complete (S b ∷ ms) Wrong xs w = elim w [ ]
 complete (D b z ∷ ms) First xs w = complete ms (Double b z) xs w
 complete (D b z ∷ ms) (Single a true) xs (t, w) = never w refl
 complete (D b z ∷ ms) (Single a false) xs (t, w) = never w refl
@@ -148,12 +150,14 @@ complete (D b z ∷ ms) (Titled a r c) xs (t, ys, w, q) =
     (more.0, q ∙ rw (next_double w, more.1) refl)
 complete (D b z ∷ ms) (Double a y) xs (t, w) = never w refl
 complete (D b z ∷ ms) Ended xs (t, w) = complete ms (Double b z) xs (t, double_first w)
+complete (D b z ∷ ms) Wrong xs w = elim w [ ]
 complete (T r c ∷ ms) First xs (t, w) = never w refl
 complete (T r c ∷ ms) (Single a true) xs (t, starts w) = complete ms (Titled a r c) xs (_, _, w, refl)
 complete (T r c ∷ ms) (Single a false) xs (t, starts w) = complete ms (Titled a r c) xs (_, _, w, refl)
 complete (T p d ∷ ms) (Titled a r c) xs (t, ys, part_single w, q) = complete ms (Titled a r c) xs (t, ys, w, q)
 complete (T r c ∷ ms) (Double a z) xs (t, lasts w) = let more = complete ms Ended _ (_, w) in (more.0, rw more.1 refl)
 complete (T r c ∷ ms) Ended xs (t, part_double w) = complete ms Ended xs (t, w)
+complete (T r c ∷ ms) Wrong xs w = elim w [ ]
 
 pub read_taken : (ms : List Mark) (t : Time) (xs : List Announcement) → Announces nothing ms t xs →
     (may_end (stage_from First ms) ≡ true) × (xs ≡ announced_from First ms)

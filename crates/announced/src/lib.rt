@@ -90,6 +90,7 @@ fn by_time(s: Stage, t: Time) -> Told
 
 impl Stage {
     // After a format: only times count here.
+    #[tactic(auto, unfolding(crate::specs::Taken::stage_from))]
     pub fn after(self, v: Value) -> Stage
         ensures { result ≡ stage_from self (marks_of v) }
     {
@@ -112,6 +113,7 @@ impl Stage {
     }
 
     // What a format announces.
+    #[tactic(auto, unfolding(crate::specs::Taken::announced_from))]
     pub fn told(self, v: Value) -> Told
         ensures { result ≡ told_of (announced_from self (marks_of v)) }
     {

@@ -74,6 +74,7 @@ complete : (ds : List Datum) (f : InForce) (typed ended : Bool) (os : List Origi
     (may_end (data_from (along f typed ended false) ds) ≡ true) × (os ≡ originals_from (along f typed ended false) ds)
 unfolding data_from originals_from
 complete [] f typed ended os none = (refl, refl)
+complete [] f typed ended os (some w) = elim w [ ]
 complete (N n ∷ ds) f typed ended os (some (network w)) = complete ds (with_network n f) false false os (some w)
 complete (A d m y ∷ ds) f typed ended os (some (date w)) = complete ds (with_date d m y f) typed false os (some w)
 complete (O o ∷ ds) f typed ended os (some (offset w)) = complete ds (with_offset o f) typed false os (some w)

@@ -52,6 +52,7 @@ pub enum Given {
 }
 
 // 'A CNI figure .. remains valid for the items following on the same page .. until it is replaced'; so do a date and an offset.
+#[tactic(auto, unfolding(crate::specs::Data::with_network))]
 fn with_network(f: InForce, n: u16) -> InForce
     ensures { result ≡ with_network n f }
 {
@@ -68,6 +69,7 @@ fn with_network(f: InForce, n: u16) -> InForce
     }
 }
 
+#[tactic(auto, unfolding(crate::specs::Data::with_date))]
 fn with_date(f: InForce, day: u8, month: u8, year: u8) -> InForce
     ensures { result ≡ with_date day month year f }
 {
@@ -84,6 +86,7 @@ fn with_date(f: InForce, day: u8, month: u8, year: u8) -> InForce
     }
 }
 
+#[tactic(auto, unfolding(crate::specs::Data::with_offset))]
 fn with_offset(f: InForce, offset: Offset) -> InForce
     ensures { result ≡ with_offset offset f }
 {
@@ -99,6 +102,7 @@ fn with_offset(f: InForce, offset: Offset) -> InForce
     }
 }
 
+#[tactic(auto, unfolding(crate::specs::Data::with_type))]
 fn with_type(f: InForce, pty: u8) -> InForce
     ensures { result ≡ with_type pty f }
 {
@@ -115,6 +119,7 @@ fn with_type(f: InForce, pty: u8) -> InForce
     }
 }
 
+#[tactic(auto, unfolding(crate::specs::Data::original_by))]
 fn original_by(f: InForce, hour: u8, minute: u8) -> Original
     ensures { result ≡ original_by f hour minute }
 {
@@ -215,6 +220,7 @@ impl Data {
         }
     }
 
+    #[tactic(auto, unfolding(crate::specs::Taken::data_from))]
     pub fn after(self, v: Value) -> Data
         ensures { result ≡ data_from self (data_of v) }
     {
@@ -233,6 +239,7 @@ impl Data {
     }
 
     // The original time that a format is, with what is in force.
+    #[tactic(auto, unfolding(crate::specs::Taken::originals_from))]
     pub fn given(self, v: Value) -> Given
         ensures { result ≡ given_of (originals_from self (data_of v)) }
     {

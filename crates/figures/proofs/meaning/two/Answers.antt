@@ -12,6 +12,3 @@ pub overflow_add-result : goal.overflow_add-result
 overflow_add-result c =
     let a = c.args in
     omega (arith, figure_small a.c, figure_small a.d)
-
-pub returns : goal.returns
-returns c = omega arith

@@ -69,7 +69,7 @@ returns-in-Single c =
     let cs = c.args.c in
     let hour : c.two.result ≡ zz cs 0 1 = c.two.ensures in
     let minute : c.two-in-Single.result ≡ zz cs 3 4 = c.two-in-Single.ensures in
-    rw (c.enum_told-in-Single-1.given.1, c.single.ensures, hour, minute) (single cs (search rules))
+    rw (c.in-Single.is, c.single.ensures, hour, minute) (single cs (search rules))
 
 pub returns-in-Double : goal.returns-in-Double
 returns-in-Double c =
@@ -78,14 +78,14 @@ returns-in-Double c =
     let minute : c.two-in-Double-2.result ≡ zz cs 3 4 = c.two-in-Double-2.ensures in
     let until : c.two-in-Double-3.result ≡ zz cs 6 7 = c.two-in-Double-3.ensures in
     let past : c.two-in-Double-4.result ≡ zz cs 9 10 = c.two-in-Double-4.ensures in
-    rw (c.enum_told-in-Double-1.given.1, c.double.ensures, hour, minute, until, past) (double cs (search rules))
+    rw (c.in-Double.is, c.double.ensures, hour, minute, until, past) (double cs (search rules))
 
 pub returns-in-Original : goal.returns-in-Original
 returns-in-Original c =
     let cs = c.args.c in
     let hour : c.two-in-Original.result ≡ zz cs 0 1 = c.two-in-Original.ensures in
     let minute : c.two-in-Original-2.result ≡ zz cs 2 3 = c.two-in-Original-2.ensures in
-    rw (c.enum_told-in-Original-1.given.1, c.original.ensures, hour, minute) (original cs (search rules))
+    rw (c.in-Original.is, c.original.ensures, hour, minute) (original cs (search rules))
 
 pub returns-in-Date : goal.returns-in-Date
 returns-in-Date c =
@@ -93,7 +93,7 @@ returns-in-Date c =
     let day : c.two-in-Date.result ≡ zz cs 0 1 = c.two-in-Date.ensures in
     let month : c.two-in-Date-2.result ≡ zz cs 2 3 = c.two-in-Date-2.ensures in
     let year : c.two-in-Date-3.result ≡ zz cs 4 5 = c.two-in-Date-3.ensures in
-    rw (c.enum_told-in-Date-1.given.1, c.date.ensures, day, month, year) (date cs (search rules))
+    rw (c.in-Date.is, c.date.ensures, day, month, year) (date cs (search rules))
 
 pub returns-in-Network : goal.returns-in-Network
 returns-in-Network c =
@@ -101,23 +101,23 @@ returns-in-Network c =
     let country : c.two_hexadecimal.result ≡ hh cs 0 1 = c.two_hexadecimal.ensures in
     let hundreds : c.figure.result ≡ figure (at cs 2) = c.figure.ensures in
     let number : c.two-in-Network.result ≡ zz cs 3 4 = c.two-in-Network.ensures in
-    rw (c.enum_told-in-Network-1.given.1, c.network.ensures, country, hundreds, number) (network cs (search rules))
+    rw (c.in-Network.is, c.network.ensures, country, hundreds, number) (network cs (search rules))
 
 pub returns-in-Offset : goal.returns-in-Offset
 returns-in-Offset c =
     let cs = c.args.c in
     let side : c.figure-in-Offset.result ≡ figure (at cs 0) = c.figure-in-Offset.ensures in
     let quarters : c.two-in-Offset.result ≡ zz cs 1 2 = c.two-in-Offset.ensures in
-    rw (c.enum_told-in-Offset-1.given.1, c.offset.ensures, side, quarters) (offset cs (search rules))
+    rw (c.in-Offset.is, c.offset.ensures, side, quarters) (offset cs (search rules))
 
 pub returns-in-Pty : goal.returns-in-Pty
 returns-in-Pty c =
     let cs = c.args.c in
     let code : c.two_hexadecimal-in-Pty.result ≡ hh cs 1 2 = c.two_hexadecimal-in-Pty.ensures in
-    rw (c.enum_told-in-Pty-1.given.1, c.pty.ensures, code) (pty cs (search rules))
+    rw (c.in-Pty.is, c.pty.ensures, code) (pty cs (search rules))
 
 pub returns-in-Word : goal.returns-in-Word
 returns-in-Word c =
     let cs = c.args.c in
     let code : c.two_hexadecimal-in-Word.result ≡ hh cs 0 1 = c.two_hexadecimal-in-Word.ensures in
-    rw (c.enum_told-in-Word-1.given.1, code) (word cs (search rules))
+    rw (c.in-Word.is, code) (word cs (search rules))

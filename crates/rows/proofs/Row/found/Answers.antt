@@ -13,7 +13,7 @@ returns-then-end c =
     let a = c.args in
     let s = a.self in
     let here : a.end ≡ true = c.if-end.true in
-    let known : c.found_in.result ≡ found_from s.start s.count s.codes-1 = c.found_in.ensures in
+    let known : c.found_in.result ≡ found_from s.start s.count s.codes = c.found_in.ensures in
     rw (known, here) refl
 
 pub returns : goal.returns

@@ -29,5 +29,5 @@ returns c =
     let colour : c.colour_by-colour.result ≡ colour_by s.colour a.c = c.colour_by-colour.ensures in
     let other : is_mark a.c ≡ false = sym c.is_mark.ensures ∙ c.if-is_mark.false in
     let count : c.count_after.result ≡ count_after s.count = c.count_after.ensures in
-    let codes : c.added.result ≡ set s.codes-1 s.count a.c = c.added.ensures in
+    let codes : c.added.result ≡ set s.codes s.count a.c = c.added.ensures in
     rw (title, column, colour, other, count, codes) refl
