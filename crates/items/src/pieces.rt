@@ -31,7 +31,7 @@ impl Split {
     // The bytes of a piece from a place on, up to the end of the next item, or all of them.
     pub fn take(self, piece: &[u8], from: usize) -> Taken
         ensures value { result ≡ taken_from (drop from piece.now) from self }
-        ensures piece_value { piece.now ≡ piece.now }
+        ensures piece_value { piece.exit.now ≡ piece.entry.now }
     {
         let stage = self.stage;
         let last = last_place(stage);

@@ -101,7 +101,7 @@ fn label_of(designation: u8, number: u64) -> Label
 // The label of a packet and the count of its mended bytes, or the first refusal that applies.
 pub fn read(bytes: &[u8]) -> Reading
     ensures result_value { reading_answer result ≡ reception_of bytes.now }
-    ensures bytes_value { bytes.now ≡ bytes.now }
+    ensures bytes_value { bytes.exit.now ≡ bytes.entry.now }
 {
     if bytes.len() != 42 {
         return Reading::Refused(Refusal::Length);

@@ -18,7 +18,7 @@ pub returns-in-Damaged : goal.returns-in-Damaged
 returns-in-Damaged c = told c.in-Damaged.is
 
 pub returns-in-Clean : goal.returns-in-Clean
-returns-in-Clean c = told c.enum_told-in-Clean-1.given.1
+returns-in-Clean c = told c.in-Clean.is
 
 pub returns-in-Mended : goal.returns-in-Mended
-returns-in-Mended c = told c.enum_told-in-Mended-1.given.1
+returns-in-Mended c = told c.in-Mended.is

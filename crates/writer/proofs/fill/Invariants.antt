@@ -7,7 +7,7 @@ use Rattle.label.proofs.Sent.{byte_of}
 use Rattle.writer.proofs.fill.Given as goal
 
 abbrev pub invariant-loop-i : goal.invariant-loop-i
-invariant-loop-i l = (9 ≤ l.i) × (l.i ≤ 22) × (l.buf ≡ put (byte_of l.initial.buf) (run 9 (l.i - 9)) l.number)
+invariant-loop-i l = (9 ≤ l.i) × (l.i ≤ 22) × (l.buf ≡ put (byte_of l.number) (run 9 (l.i - 9)) l.initial.buf)
 
 abbrev pub decreases-loop-i : goal.decreases-loop-i
 decreases-loop-i l = 22 - l.i

@@ -1,8 +1,7 @@
 -- `too_wide` leaves out the tests of two fields, whose types are as wide as their bits, and of the designation, whose test is narrower.
 use borrow.Author.Rules.{rules}
-use native.Mathlib.Omega.{arith}
 use Rattle.label.proofs.Tests.{unfit_by}
 use Rattle.writer.proofs.too_wide.Goals as goal
 
 pub returns : goal.returns
-returns c = unfit_by c.args.l (search rules) (omega (arith, c.struct_known-9-1.given.1.1.1.1.1.1.1.1.1))
+returns c = unfit_by c.args.l (search rules) (search rules)

@@ -8,8 +8,8 @@ use Rattle.items.proofs.Split.take.Given as goal
 
 abbrev pub invariant-loop-at : goal.invariant-loop-at
 invariant-loop-at l =
-    taken_from (drop l.at l.piece) l.at (record { l.stage = l.stage; l.have = l.have; l.held = l.held })
-    ≡ taken_from (drop l.initial.at l.piece) l.initial.at (record { l.stage = l.stage; l.have = l.initial.have; l.held = l.initial.held })
+    taken_from (drop l.at l.piece) l.at (record { stage = l.stage; have = l.have; held = l.held })
+    ≡ taken_from (drop l.initial.at l.piece) l.initial.at (record { stage = l.stage; have = l.initial.have; held = l.initial.held })
 
 abbrev pub decreases-loop-at : goal.decreases-loop-at
 decreases-loop-at l = length l.piece - l.at

@@ -16,7 +16,7 @@ pub returns-in-PacketCount : goal.returns-in-PacketCount
 returns-in-PacketCount c =
     let held = c.args.held in
     let count : c.pair.result ≡ number_of (take 2 held) = c.pair.ensures ∙ sym (number 2 held (search rules)) in
-    rw (c.enum_told-in-PacketCount-1.given.1, ← count) c.packets_left.ensures
+    rw (c.in-PacketCount.is, ← count) c.packets_left.ensures
 
 pub returns-in-Packets : goal.returns-in-Packets
 returns-in-Packets c = rw (c.in-Packets.is, ← c.one_less-in-Packets.ensures) c.packets_left-in-Packets.ensures
