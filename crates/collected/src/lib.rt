@@ -39,7 +39,7 @@ impl Collected {
     // As many bytes of a piece as find room are kept.
     pub fn feed(self, piece: &[u8]) -> Collected
         ensures value { result ≡ after_piece piece.now self }
-        ensures piece_value { piece.now ≡ piece.now }
+        ensures piece_value { piece.exit.now ≡ piece.entry.now }
     {
         let start = least(self.length, DECIDING);
         let more = least(DECIDING - start, piece.len());

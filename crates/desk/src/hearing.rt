@@ -96,7 +96,7 @@ impl Desk {
     pub fn packet(self, tuner: u8, time: u32, bytes: &[u8]) -> Heard
         ensures answer_value { (packet_number result.answer ≡ number (packet_of tuner time bytes.now self))
             × (result.desk ≡ after self (packet_of tuner time bytes.now self)) }
-        ensures bytes_value { bytes.now ≡ bytes.now }
+        ensures bytes_value { bytes.exit.now ≡ bytes.entry.now }
     {
         let barred = self.barred(tuner, time);
         match barred {

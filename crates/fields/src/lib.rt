@@ -32,7 +32,7 @@ fn fill(count: usize, programmes: [Programme; 103], out: &mut [u8])
 pub fn read_into(page: &[u8], out: &mut [u8]) -> u8
     ensures value { (result ≡ number (page_into page.now out.old))
         × (out.new ≡ after out.old (page_into page.now out.old)) }
-    ensures page_value { page.now ≡ page.now }
+    ensures page_value { page.exit.now ≡ page.entry.now }
 {
     if out.len() != 1649 {
         return WRONG_ROOM;
@@ -73,7 +73,7 @@ fn page_of(f: &[u8]) -> Page
 pub fn write_from(fields: &[u8], buf: &mut [u8]) -> u16
     ensures value { (result ≡ plain 256 (packets_told (page_from fields.now buf.old)))
         × (buf.new ≡ after buf.old (bytes_left (page_from fields.now buf.old))) }
-    ensures fields_value { fields.now ≡ fields.now }
+    ensures fields_value { fields.exit.now ≡ fields.entry.now }
 {
     if fields.len() != 1650 {
         return WRONG_ROOM as u16 * 256;
@@ -90,7 +90,7 @@ pub fn write_from(fields: &[u8], buf: &mut [u8]) -> u16
 // 2 ^ 20, which is wider than a PIL, where there is none.
 pub fn pil_from(fields: &[u8]) -> u32
     ensures value { result ≡ plain 16777216 (pil_from fields.now) }
-    ensures fields_value { fields.now ≡ fields.now }
+    ensures fields_value { fields.exit.now ≡ fields.entry.now }
 {
     if fields.len() != 16 {
         return WRONG_ROOM as u32 * 16777216;

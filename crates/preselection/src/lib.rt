@@ -25,7 +25,7 @@ fn refused(verdict: Verdict) -> Reading
 // 'In that order within a packet, lowest packet first.'
 pub fn read(bytes: &[u8]) -> Reading
     ensures verdict_value { (read_number result.verdict ≡ number (reading_of bytes.now)) × (result.page ≡ page_of (after [] (reading_of bytes.now))) }
-    ensures bytes_value { bytes.now ≡ bytes.now }
+    ensures bytes_value { bytes.exit.now ≡ bytes.entry.now }
 {
     let mut state = State::new();
     let mut page = page::none();

@@ -77,7 +77,7 @@ fn refused(verdict: Verdict) -> Reading
 // One pass over the page, code by code; '23 .., 24 .., 25 .., in that order'.
 pub fn read(bytes: &[u8]) -> Reading
     ensures read_as { ReadAs bytes.now result }
-    ensures bytes_value { bytes.now ≡ bytes.now }
+    ensures bytes_value { bytes.exit.now ≡ bytes.entry.now }
 {
     if bytes.len() != 960 {
         return refused(Verdict::Length);

@@ -73,7 +73,7 @@ fn fill(r: Received, out: &mut [u8])
 #[unsafe(no_mangle)]
 pub extern "C" fn probe_read(bytes: &[u8], out: &mut [u8]) -> u8
     ensures value { (result ≡ number (read_into bytes.now out.old)) × (out.new ≡ after out.old (read_into bytes.now out.old)) }
-    ensures bytes_value { bytes.now ≡ bytes.now }
+    ensures bytes_value { bytes.exit.now ≡ bytes.entry.now }
 {
     if out.len() != 14 {
         return WRONG_ROOM;
@@ -111,7 +111,7 @@ fn label_of(f: &[u8]) -> Label
 #[unsafe(no_mangle)]
 pub extern "C" fn probe_write(fields: &[u8], buf: &mut [u8]) -> u8
     ensures value { (result ≡ number (write_from fields.now buf.old)) × (buf.new ≡ after buf.old (write_from fields.now buf.old)) }
-    ensures fields_value { fields.now ≡ fields.now }
+    ensures fields_value { fields.exit.now ≡ fields.entry.now }
 {
     if fields.len() != 13 {
         return WRONG_ROOM;
@@ -176,7 +176,7 @@ pub extern "C" fn probe_triplet_word(v: u32) -> u32
 pub extern "C" fn probe_page_read(page: &[u8], out: &mut [u8]) -> u8
     ensures value { (result ≡ number (page_into page.now out.old))
         × (out.new ≡ after out.old (page_into page.now out.old)) }
-    ensures page_value { page.now ≡ page.now }
+    ensures page_value { page.exit.now ≡ page.entry.now }
 {
     fields::read_into(page, out)
 }
@@ -185,7 +185,7 @@ pub extern "C" fn probe_page_read(page: &[u8], out: &mut [u8]) -> u8
 pub extern "C" fn probe_page_write(fields: &[u8], buf: &mut [u8]) -> u16
     ensures value { (result ≡ plain 256 (packets_told (page_from fields.now buf.old)))
         × (buf.new ≡ after buf.old (bytes_left (page_from fields.now buf.old))) }
-    ensures fields_value { fields.now ≡ fields.now }
+    ensures fields_value { fields.exit.now ≡ fields.entry.now }
 {
     fields::write_from(fields, buf)
 }
@@ -193,7 +193,7 @@ pub extern "C" fn probe_page_write(fields: &[u8], buf: &mut [u8]) -> u16
 #[unsafe(no_mangle)]
 pub extern "C" fn probe_pil(fields: &[u8]) -> u32
     ensures value { result ≡ plain 16777216 (pil_from fields.now) }
-    ensures fields_value { fields.now ≡ fields.now }
+    ensures fields_value { fields.exit.now ≡ fields.entry.now }
 {
     fields::pil_from(fields)
 }
@@ -201,7 +201,7 @@ pub extern "C" fn probe_pil(fields: &[u8]) -> u32
 #[unsafe(no_mangle)]
 pub extern "C" fn probe_preview(page: &[u8], out: &mut [u8]) -> u8
     ensures read_into { ReadInto page.now out.old result out.new }
-    ensures page_value { page.now ≡ page.now }
+    ensures page_value { page.exit.now ≡ page.entry.now }
 {
     viewed::read_into(page, out)
 }

@@ -46,7 +46,7 @@ impl Asked {
     // The first byte of all is the home tuner, and what follows is the page.
     pub fn feed(self, piece: &[u8]) -> Asked
         ensures value { result ≡ after_piece piece.now self }
-        ensures piece_value { piece.now ≡ piece.now }
+        ensures piece_value { piece.exit.now ≡ piece.entry.now }
     {
         let page = self.page;
         if self.begun {

@@ -76,7 +76,7 @@ impl Sheet {
     pub fn feed(self, piece: &[u8], out: &mut [u8], at: usize) -> Fed
         ensures value { (result ≡ fed_by piece.now out.old at self)
             × (out.new ≡ out_after piece.now out.old at self) }
-        ensures piece_value { piece.now ≡ piece.now }
+        ensures piece_value { piece.exit.now ≡ piece.entry.now }
     {
         let fits = has_room(out.len(), at, piece.len());
         if fits {

@@ -80,7 +80,7 @@ fn given<E: Write>(told: &mut E, got: Result<usize>, piece: &[u8], failed: &[u8]
 pub fn read<R: Read, E: Write>(from: &mut R, told: &mut E, piece: &mut [u8], failed: &[u8]) -> Got
     ensures prefix_len { result.count ≤ length piece.new }
     ensures counted { result.count ≡ length (take result.count piece.new) }
-    ensures failed_value { failed.now ≡ failed.now }
+    ensures failed_value { failed.exit.now ≡ failed.entry.now }
     ensures bytes { Consumes (R.remaining from.old) (R.remaining from.new) (take result.count piece.new) }
     ensures end { IsTrue result.ended → 0 < length piece.old → IsAtEnd (R.remaining from.new) }
 {
@@ -102,7 +102,7 @@ pub fn write<W: Write, E: Write>(
     n: usize,
     failed: &[u8],
 ) -> bool
-    ensures lent_value { (out.now ≡ out.now) × (failed.now ≡ failed.now) }
+    ensures lent_value { (out.exit.now ≡ out.entry.now) × (failed.exit.now ≡ failed.entry.now) }
     ensures enough { IsTrue result → n ≤ length out.now }
     ensures bytes { IsTrue result → Appends (W.contents to.old) (W.contents to.new) (take n out.now) }
 {

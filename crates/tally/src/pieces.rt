@@ -28,7 +28,7 @@ impl Tally {
     // Every packet of a piece is counted.
     pub fn feed(self, piece: &[u8]) -> Tally
         ensures value { result ≡ after_piece piece.now self }
-        ensures piece_value { piece.now ≡ piece.now }
+        ensures piece_value { piece.exit.now ≡ piece.entry.now }
     {
         let mut split = self.split;
         let mut tuners = self.tuners;

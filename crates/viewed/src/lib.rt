@@ -29,7 +29,7 @@ fn fill(count: usize, programmes: [Programme; 24], out: &mut [u8])
 // The count, then 24 programmes of sixteen bytes. No refusal has the number 0.
 pub fn read_into(page: &[u8], out: &mut [u8]) -> u8
     ensures read_into { ReadInto page.now out.old result out.new }
-    ensures page_value { page.now ≡ page.now }
+    ensures page_value { page.exit.now ≡ page.entry.now }
 {
     if out.len() != 385 {
         return WRONG_ROOM;
