@@ -79,7 +79,7 @@ pub fn started(command: &[String], sheet: &Given) -> String {
 impl Program {
     /// What the build leaves.
     fn file(&self) -> String {
-        built(&format!("target/bin/{}", self.name))
+        built(&format!("crates/{0}/out/{0}", self.name))
     }
 
     pub fn command(&self) -> Vec<String> {

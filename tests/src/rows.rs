@@ -54,7 +54,7 @@ pub fn panel(often: u32, sum: u16) -> Row {
 /// What the program answers to rows, each of which begins with a fresh desk.
 pub fn answered(rows: &[Vec<Row>]) -> Vec<Answered> {
     let input: Vec<u8> = rows.iter().flatten().flatten().copied().collect();
-    let output = printed(&run(&[built("target/bin/calls")]), &input);
+    let output = printed(&run(&[built("crates/calls/out/calls")]), &input);
     let mut answers = output.chunks(40).map(|answer| Answer::try_from(answer).unwrap());
     let each = |row: &Vec<Row>| Answered { answers: answers.by_ref().take(row.len()).collect(), at: 0 };
     let answered: Vec<Answered> = rows.iter().map(each).collect();

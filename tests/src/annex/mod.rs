@@ -7,7 +7,7 @@ use crate::command::file;
 use std::collections::BTreeMap;
 use std::fs;
 
-/// What `rt check annex_e` holds the program to.
+/// What `rt ci` holds the program to.
 pub const STORED: &str = "crates/annex_e/stdout";
 
 pub fn text(path: &str) -> String {
