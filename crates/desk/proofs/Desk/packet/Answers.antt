@@ -28,7 +28,7 @@ pub returns-in-Read : goal.returns-in-Read
 unfolding packet_of
 returns-in-Read c =
     let a = c.args in
-    let l = c.reading-in-Read-1.given.0.0.label in
+    let l = c.in-Read.r.label in
     let e = gate_open a.self l a.self a.tuner a.time c.barred-barred.ensures c.in-Done.is in
     rw (
       gate_open a.self a.bytes.now a.self a.tuner a.time c.barred-barred.ensures c.in-Done.is,
