@@ -32,4 +32,4 @@ returns-in-Repeats c = rw (judged (goal.at.returns-in-Repeats c).After-judge-ver
 
 pub returns-in-Moves : goal.returns-in-Moves
 unfolding updating
-returns-in-Moves c = rw (judged c.before, c.in-Moves.is, c.take.ensures) (refl, refl)
+returns-in-Moves c = rw (judged (goal.at.returns-in-Moves c).After-judge-verdict, c.in-Moves.is, c.take.ensures) (refl, refl)
