@@ -26,7 +26,7 @@ pub returns-then-held : goal.returns-then-held
 returns-then-held c =
     let a = c.args in
     let ranged : out_of_range a.b ≡ false = sym c.out_of_range-wide.ensures ∙ c.if-wide.false in
-    let twin : c.any_holds-held.result ≡ some (λ t. active a.self.clock t && same_booking a.b t.booking) a.self.timers-1 = c.any_holds-held.ensures in
+    let twin : c.any_holds-held.result ≡ some (λ t. active a.self.clock t && same_booking a.b t.booking) a.self.timers = c.any_holds-held.ensures in
     rw (ranged, lt-leb _ _ c.if-w-self.false, ← twin, c.if-held.true, c.not_added-then-held.ensures) (refl, refl)
 
 pub returns-then-slot-ge16 : goal.returns-then-slot-ge16

@@ -10,7 +10,7 @@ unfolding packet_of
 returns-in-Refused c =
     let a = c.args in
     rw (gate_shut a.self a.bytes.now a.self a.tuner a.time c.barred-barred.ensures _ c.in-Refused.is, c.refuse.ensures)
-    ((refl, refl), refl)
+    (record { answer_value = (refl, refl); bytes_value = refl })
 
 pub returns-in-Refused-reading : goal.returns-in-Refused-reading
 unfolding packet_of
@@ -18,21 +18,21 @@ returns-in-Refused-reading c =
     let a = c.args in
     rw (
       gate_open a.self a.bytes.now a.self a.tuner a.time c.barred-barred.ensures c.in-Done.is,
-      ← label_read a.bytes.now c.read-reading.ensures.0,
+      ← label_read a.bytes.now c.read-reading.ensures.result_value,
       c.in-Refused-reading.is,
       c.refuse-in-Refused-reading.ensures,
     )
-    ((refl, refl), refl)
+    (record { answer_value = (refl, refl); bytes_value = refl })
 
 pub returns-in-Read : goal.returns-in-Read
 unfolding packet_of
 returns-in-Read c =
     let a = c.args in
-    let l = c.reading-in-Read-1.given.0.0.label in
+    let l = c.in-Read.r.label in
     let e = gate_open a.self l a.self a.tuner a.time c.barred-barred.ensures c.in-Done.is in
     rw (
       gate_open a.self a.bytes.now a.self a.tuner a.time c.barred-barred.ensures c.in-Done.is,
-      ← label_read a.bytes.now c.read-reading.ensures.0,
+      ← label_read a.bytes.now c.read-reading.ensures.result_value,
       c.in-Read.is,
     )
-    (rw (hearing_open a.tuner a.time l a.self e) at c.hear.ensures, refl)
+    (record { answer_value = rw (hearing_open a.tuner a.time l a.self e) at c.hear.ensures; bytes_value = refl })

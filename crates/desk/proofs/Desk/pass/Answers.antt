@@ -1,5 +1,4 @@
 -- The loop's invariant: the seconds walked so far and those from here on are those of the whole pass, and both end at the same desk.
-use Prim.Native.Nat.{◌-◌}
 use mathlib.Core.Bool.{true}
 use mathlib.Core.Path.{◌≡◌, refl, sym, ◌∙◌}
 use native.Mathlib.Omega.{arith}

@@ -9,10 +9,10 @@ use Rattle.desk.proofs.Desk.update.Goals.{After-judge-verdict}
 
 -- the verdict is that on what the packet's own place holds, at the packet's second
 judged : (j : After-judge-verdict) → let a = j.args in
-    update_for a.time (get_or a.self.places-1 (place_of a.tuner a.l) no_label) a.l a.self.timers-1 ≡ verdict_answer j.judge-verdict.result
+    update_for a.time (get_or a.self.places (place_of a.tuner a.l) no_label) a.l a.self.timers ≡ verdict_answer j.judge-verdict.result
 judged j =
     let a = j.args in
-    ap (λ x. update_for a.time x a.l a.self.timers-1) (sym j.label_at-old.ensures) ∙ sym j.judge-verdict.ensures
+    ap (λ x. update_for a.time x a.l a.self.timers) (sym j.label_at-old.ensures) ∙ sym j.judge-verdict.ensures
 
 pub returns-in-NoMatch : goal.returns-in-NoMatch
 unfolding updating
@@ -32,4 +32,4 @@ returns-in-Repeats c = rw (judged (goal.at.returns-in-Repeats c).After-judge-ver
 
 pub returns-in-Moves : goal.returns-in-Moves
 unfolding updating
-returns-in-Moves c = rw (judged c.before, c.in-Moves.is, c.take.ensures) (refl, refl)
+returns-in-Moves c = rw (judged (goal.at.returns-in-Moves c).After-judge-verdict, c.in-Moves.is, c.take.ensures) (refl, refl)

@@ -1,5 +1,4 @@
 -- The loop's invariant: the standing label matches no timer of a slot before i.
-use Prim.Native.Nat.{◌-◌}
 use mathlib.Core.Path.{refl}
 use borrow.Author.Tests.{lt-leb}
 use Rattle.places.proofs.Search.{hit, miss, none}

@@ -1,6 +1,5 @@
 -- The loop's invariant: the first i timers have gone on, those of them that are live are counted, and the others are as they were.
-use Prim.Native.Nat.{ℕ, ◌<◌, ◌-◌}
-use mathlib.Core.Logic.{⊎_elim}
+use Prim.Native.Nat.{ℕ, ◌<◌}
 use mathlib.Core.List.{List}
 use mathlib.Core.Path.{refl, sym, ap₂, ◌∙◌}
 use native.Mathlib.Nat.{zero-add}
@@ -14,6 +13,7 @@ use Rattle.sixteen.specs.Sixteen.{no_timer}
 use Rattle.sixteen.proofs.Mapped.{map_to_more, map_to_kept, map_to_all}
 use Rattle.sixteen.proofs.Counts.{bit_le, mapped_more, mapped_kept, mapped_all}
 use Rattle.sixteen.proofs.slots.all_next.Goals as goal
+use Rattle.sixteen.proofs.slots.all_next.Goals.{then-held, else-held}
 
 pub loop-i-init : goal.loop-i-init
 loop-i-init c = ((refl, search rules, sym (zero-add _)), search rules, search rules)
@@ -29,20 +29,20 @@ loop-i-preserved c =
     let n = c.loop-i.live in
     let so = c.loop-i.invariant.0 in
     let h : i < length ts = search rules in (
-      ⊎_elim
-          (λ w. (
-            w.3 ∙ map_to_more _ i ts ys no_timer _ h so.0 w.1.ensures,
-            omega (arith, w.4, bit_le w.2.result),
-            rw w.4 (mapped_more _ live_timer ts n i ys no_timer _ h so.2 so.0 w.1.ensures w.2.ensures),
-          ))
-          (λ w.
-          let free = sym c.is_held-held.ensures ∙ w.0.left in
-          let same = free_stays _ _ _ free in (
-            w.1 ∙ map_to_kept _ i ts ys no_timer h so.0 same,
-            omega (arith, w.2),
-            rw w.2 (mapped_kept _ live_timer ts n i ys no_timer h so.2 so.0 same (free_not_live (get_or ys i no_timer) free)),
-          ))
-          c.if-held.branch,
+      elim c.if-held.branch [
+        | then-held w ↦ (
+          w.out-is ∙ map_to_more _ i ts ys no_timer _ h so.0 w.next_timer-next.ensures,
+          omega (arith, w.live-is, bit_le w.is_live-counts.result),
+          rw w.live-is (mapped_more _ live_timer ts n i ys no_timer _ h so.2 so.0 w.next_timer-next.ensures w.is_live-counts.ensures),
+        )
+        | else-held w ↦
+            let free = sym c.is_held-held.ensures ∙ w.if-held.false in
+            let same = free_stays _ _ _ free in (
+              w.out-is ∙ map_to_kept _ i ts ys no_timer h so.0 same,
+              omega (arith, w.live-is),
+              rw w.live-is (mapped_kept _ live_timer ts n i ys no_timer h so.2 so.0 same (free_not_live (get_or ys i no_timer) free)),
+            )
+      ],
       search rules,
       search rules,
     )

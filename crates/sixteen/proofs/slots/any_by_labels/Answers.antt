@@ -1,5 +1,4 @@
 -- The loop's invariant: no timer before slot i is recording or running on.
-use Prim.Native.Nat.{◌-◌}
 use mathlib.Core.Path.{refl}
 use Rattle.places.proofs.Search.{some_hit, miss, some_missed}
 use borrow.Author.Rules.{rules}
