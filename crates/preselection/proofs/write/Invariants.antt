@@ -12,8 +12,8 @@ use Rattle.preselection.proofs.write.Given as goal
 
 abbrev pub invariant-loop-i : goal.invariant-loop-i
 invariant-loop-i l =
-    (l.i ≤ 42 * l.outside) × (length l.buf ≡ length l.packets)
-    × ((gs : List Group) → ((n : ℕ) → n < room → get_or l.initial.buf n 0 ≡ bits_at gs n) → l.buf ≡ sets l.packets 0 (bytes_to l.magazine gs l.i))
+    (l.i ≤ 42 * l.packets) × (length l.buf ≡ length l.initial.buf)
+    × ((gs : List Group) → ((n : ℕ) → n < room → get_or l.bits n 0 ≡ bits_at gs n) → l.buf ≡ sets l.initial.buf 0 (bytes_to l.magazine gs l.i))
 
 abbrev pub decreases-loop-i : goal.decreases-loop-i
-decreases-loop-i l = 42 * l.outside - l.i
+decreases-loop-i l = 42 * l.packets - l.i

@@ -1,6 +1,5 @@
 -- `take` goes through a packet's triplets; what it keeps is `Along`.
 use borrow.Author.Rules.{rules}
-use Prim.Native.Nat.{◌-◌}
 use mathlib.Core.Path.{◌≡◌}
 use native.Mathlib.Omega.{arith}
 use Rattle.programmes.specs.Page.{groups_in}
@@ -12,7 +11,7 @@ loop-j-init c = along_none _ _ _ _
 
 pub loop-j-preserved : goal.loop-j-preserved
 loop-j-preserved c =
-    along_more _ _ c.loop-j.invariant (search rules) c.triplet_at-t.ensures c.is_damaged-damaged.ensures c.bits_in.ensures c.Group-of.ensures
+    along_more _ _ c.loop-j.invariant (search rules) c.triplet_at-t.ensures c.is_damaged-damaged.ensures c.bits_in.ensures c.group_of-g.ensures
     c.change-c.ensures c.change-more.ensures.0 c.change-more.ensures.1 c.next-next.ensures
 
 pub returns : goal.returns

@@ -6,4 +6,4 @@ use borrow.Author.Rules.{rules}
 use Rattle.preselection.proofs.page.at.Goals as goal
 
 pub returns : goal.returns
-returns c = let a = c.args in c.blank.ensures ∙ sym (get_or-eq_default a.t1 blank {n = a.i} (search rules))
+returns c = let a = c.args in c.blank.ensures ∙ sym (get_or-eq_default a.programmes blank {n = a.i} (search rules))
