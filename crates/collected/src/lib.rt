@@ -27,6 +27,7 @@ fn read_first(bytes: [u8; 961], n: usize) -> Reading
 }
 
 impl Collected {
+    #[tactic(auto, unfolding(crate::specs::Collected::blank))]
     pub fn new() -> Collected
         ensures { result ≡ blank }
     {
@@ -61,6 +62,7 @@ impl Collected {
     }
 
     // The page, where the input ends here.
+    #[tactic(auto, unfolding(crate::specs::Collected::held))]
     pub fn read(self) -> Reading
         ensures { ReadAs (held self) result }
     {

@@ -1,5 +1,5 @@
 -- A page taken one row at a time, and what is told of it. What counts as a reading is said in Page.antt; the laws say that this is the same.
-use Rattle.std.specs.Prelude.{ℕ, zero, suc, ◌+◌, Bool, not, ◌&&◌, ◌||◌, ◌≡◌, List, [], ◌∷◌, ◌++◌, eqb, length}
+use Rattle.std.specs.Prelude.{ℕ, zero, suc, Bool, not, ◌&&◌, ◌||◌, ◌≡◌, List, [], ◌∷◌, ◌++◌, eqb, length}
 use Rattle.answer.specs.Answer.{Answer, Row, first_of, number, after}
 use Rattle.answer.specs.Lists.{filled}
 use Rattle.rows.specs.Row.{Content}

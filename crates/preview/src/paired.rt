@@ -79,6 +79,7 @@ fn programmes(n: usize, a: [Announcement; 24], o: [Original; 24]) -> [Programme;
     out
 }
 
+#[tactic(auto, unfolding(crate::specs::Rows::page_by))]
 pub(crate) fn page_of(t: Table) -> Page
     requires { t.announcements.count ≤ 24 }
     ensures { result ≡ page_by t }

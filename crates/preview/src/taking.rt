@@ -67,6 +67,7 @@ pub(crate) fn take_row(bytes: &[u8], r: usize, table: Table) -> Table
 }
 
 // 'As many original times as programmes'; more than 24 are as many as 25, which no programmes are.
+#[tactic(auto, unfolding(crate::specs::Rows::may_read))]
 pub(crate) fn is_readable(t: Table) -> bool
     ensures { result ≡ may_read t }
 {

@@ -241,6 +241,7 @@ impl Table {
     }
 
     // 'Any PTL formats occurring are entered in the row of the table that contains the last time entry.'
+    #[tactic(auto, unfolding(crate::specs::Table::titled_at))]
     pub fn titled(self, row: u8, column: u8) -> Table
         ensures { result ≡ titled_at self row column }
     {
@@ -262,6 +263,7 @@ impl Table {
     }
 
     // 'A code is 0 to 127.'
+    #[tactic(auto, unfolding(crate::specs::Table::with_code))]
     pub fn coded(self, c: u8) -> Table
         ensures { result ≡ with_code self c }
     {

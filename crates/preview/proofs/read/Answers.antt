@@ -1,7 +1,5 @@
 -- `read` goes through the rows; what it keeps is the table of those before row r. Each exit is a row of the answer.
 use native.Mathlib.Omega.{arith}
-use Prim.Native.Nat.{◌-◌}
-use borrow.Author.Tests.{not-true, not-false}
 use mathlib.Core.Path.{◌≡◌, refl, sym, ◌∙◌}
 use Rattle.preview.specs.declared.Verdict.TheVariants.{Read}
 use Rattle.preview.proofs.Whole.{none_held, row_more, refused_as, answer_23, Rest, unreadable, disagreed, room, read_whole}
@@ -12,12 +10,12 @@ use Rattle.preview.proofs.read.Goals.{After-is_readable}
 rest : (c : After-is_readable) → Rest c.args.bytes.now c.loop-r.t c.is_readable.result
 rest c =
     let all : c.loop-r.r ≡ 24 = omega (arith, c.loop-r.invariant.0, c.loop-r-test.false) in
-    record { sized = c.if-bytes-ne960.false; held = rw all c.at-WAS c.loop-r.invariant.1; known = c.is_readable.ensures }
+    record { sized = c.if-bytes-ne960.false; held = rw all at c.loop-r.invariant.1; known = c.is_readable.ensures }
 
-pub returns-then-bytes-ne960 : goal.returns-then-bytes-ne960
-returns-then-bytes-ne960 c =
+pub returns-then-bytes-ne960-clause-read_as : goal.returns-then-bytes-ne960-clause-read_as
+returns-then-bytes-ne960-clause-read_as c =
     let page = c.args.bytes.now in
-    (refused_as _ c.refused.ensures (answer_23 page c.if-bytes-ne960.true), refl)
+    refused_as _ c.refused.ensures (answer_23 page c.if-bytes-ne960.true)
 
 pub loop-r-init : goal.loop-r-init
 loop-r-init c = (omega arith, c.new-t.ensures ∙ none_held _)
@@ -26,18 +24,19 @@ pub loop-r-preserved : goal.loop-r-preserved
 loop-r-preserved c =
     (omega (arith, c.loop-r-test.true), row_more _ _ c.loop-r.invariant.1 c.take_row-next.ensures)
 
-pub returns-then-t-is_readable : goal.returns-then-t-is_readable
-returns-then-t-is_readable c = (refused_as _ c.refused-then-t-is_readable.ensures (unreadable (rest (goal.at.returns-then-t-is_readable c).After-is_readable) c.if-t-is_readable.true), refl)
+pub returns-then-t-is_readable-clause-read_as : goal.returns-then-t-is_readable-clause-read_as
+returns-then-t-is_readable-clause-read_as c =
+    refused_as _ c.refused-then-t-is_readable.ensures (unreadable (rest (goal.at.returns-then-t-is_readable-clause-read_as c).After-is_readable) c.if-t-is_readable.true)
 
-pub returns-then-not-agree : goal.returns-then-not-agree
-returns-then-not-agree c =
-    let differs = sym c.agree.ensures ∙ not-true c.agree.result c.if-not-agree.true in
-    (refused_as _ c.refused-then-not-agree.ensures (disagreed (rest c.before) c.if-t-is_readable.false differs), refl)
+pub returns-then-not-agree-clause-read_as : goal.returns-then-not-agree-clause-read_as
+returns-then-not-agree-clause-read_as c =
+    let differs = sym c.agree.ensures ∙ c.if-not-agree.true in
+    refused_as _ c.refused-then-not-agree.ensures (disagreed (rest (goal.at.returns-then-not-agree-clause-read_as c).After-is_readable) c.if-t-is_readable.false differs)
 
 pub page_of-requires : goal.page_of-requires
 page_of-requires c = room (rest (goal.at.page_of-requires c).After-is_readable) c.if-t-is_readable.false
 
-pub returns : goal.returns
-returns c =
-    let same = sym c.agree.ensures ∙ not-false c.agree.result c.if-not-agree.false in
-    (read_whole (rest c.before) c.if-t-is_readable.false same (record { verdict = Read; page = c.page_of.result }) refl c.page_of.ensures, refl)
+pub returns-clause-read_as : goal.returns-clause-read_as
+returns-clause-read_as c =
+    let same = sym c.agree.ensures ∙ c.if-not-agree.false in
+    read_whole (rest (goal.at.returns-clause-read_as c).After-is_readable) c.if-t-is_readable.false same (record { verdict = Read; page = c.page_of.result }) refl c.page_of.ensures

@@ -1,6 +1,5 @@
 -- `programmes` pairs the first n one after the other.
 use borrow.Author.Rules.{rules}
-use Prim.Native.Nat.{◌-◌}
 use mathlib.Core.Path.{◌≡◌, refl}
 use native.Mathlib.Numerals.{add-one}
 use native.Mathlib.Omega.{arith}
@@ -13,7 +12,7 @@ loop-i-init c = (search rules, rw c.blank-out.ensures refl)
 pub loop-i-preserved : goal.loop-i-preserved
 loop-i-preserved c =
     let a = c.args in
-    (search rules, rw (c.loop-i.invariant.1, c.programme_by.ensures, add-one c.loop-i.i) (first_more a.t2 a.t3 c.loop-i.i _ _ (search rules) (search rules)))
+    (search rules, rw (c.loop-i.invariant.1, c.programme_by.ensures, add-one c.loop-i.i) (first_more a.a a.o c.loop-i.i _ _ (search rules) (search rules)))
 
 pub returns : goal.returns
 returns c =

@@ -1,15 +1,14 @@
 -- `take_row` goes through a row's codes, and then its end; what it keeps is `Taking`.
 use borrow.Author.Rules.{rules}
 use native.Mathlib.Omega.{arith}
-use Prim.Native.Nat.{◌+◌, ◌*◌, ◌-◌, ◌<◌}
+use Prim.Native.Nat.{◌+◌, ◌*◌, ◌<◌}
 use lib.ListN.{length, get_or}
-use mathlib.Core.Logic.{⊎_elim}
 use mathlib.Core.Path.{◌≡◌, refl, ◌∙◌}
 use Rattle.table.specs.Table.{with_code}
 use Rattle.preview.specs.Rows.{with_given_out}
 use Rattle.preview.proofs.Steps.{taking_none, entered, untouched, taking_more, taking_end}
 use Rattle.preview.proofs.taking.take_row.Goals as goal
-use Rattle.preview.proofs.taking.take_row.Goals.{At-loop-p}
+use Rattle.preview.proofs.taking.take_row.Goals.{At-loop-p, then-titled-text, else-titled-text}
 
 -- what is asked of the page and the row
 sized : (a : At-loop-p) → length a.args.bytes.now ≡ 960
@@ -37,8 +36,10 @@ loop-p-preserved c =
     let code = get_or args.bytes.now (40 * args.r + c.loop-p.p) 0 in
     let given = with_given_out c.loop-p.t args.r c.loop-p.x.column c.titled-titled.result c.is_text-text.result c.found-found.result in
     let table : c.if-titled-text.t ≡ with_code given code =
-    ⊎_elim {C = c.if-titled-text.t ≡ with_code given code} (λ w. entered _ _ _ _ _ _ _ w.1.ensures w.2.ensures w.3) (λ w. w.1 ∙ untouched _ _ _ _ _ _ _ w.0.left)
-    c.if-titled-text.branch in
+    elim c.if-titled-text.branch [
+      | then-titled-text w ↦ entered _ _ _ _ _ _ _ w.given_out-given.ensures w.coded-t.ensures w.t-is
+      | else-titled-text w ↦ w.t-is ∙ untouched _ _ _ _ _ _ _ w.if-titled-text.false
+    ] in
     taking_more _ _ _ (sized (goal.at.loop-p-preserved c).At-loop-p) (low (goal.at.loop-p-preserved c).At-loop-p) c.loop-p-test.true c.loop-p.invariant _ _ _ _ _ _ _ refl c.pair_at-pair.ensures
     (rw c.is_mark.ensures at c.found-found.ensures) c.is_text-text.ensures c.titled-titled.ensures table c.next-next.ensures
 
