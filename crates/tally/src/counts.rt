@@ -12,6 +12,7 @@ use report::Tuner;
 const MOST: u32 = 4294967295;
 
 // A count stops where its bits end: no sheet comes to that.
+#[tactic(auto, unfolding(crate::specs::Pieces::grown))]
 fn grown(n: u32, k: u32) -> u32
     ensures { result ≡ grown n k }
 {
@@ -78,6 +79,7 @@ fn counted(tuners: [Tuner; 4], held: [u8; 47]) -> [Tuner; 4]
     out
 }
 
+#[tactic(auto, unfolding(crate::specs::Pieces::counted_items))]
 pub(crate) fn found_more(tuners: [Tuner; 4], found: Found, held: [u8; 47]) -> [Tuner; 4]
     ensures { result ≡ counted_items (items_found found held) tuners }
 {

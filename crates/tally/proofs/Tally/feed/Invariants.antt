@@ -7,7 +7,7 @@ use Rattle.tally.proofs.Tally.feed.Given as goal
 
 abbrev pub invariant-loop-i : goal.invariant-loop-i
 invariant-loop-i l =
-    Along l.piece (record { l.split = l.initial.split; l.tuners = l.initial.tuners }) (record { l.split = l.split; l.tuners = l.tuners }) l.i
+    Along l.piece (record { split = l.initial.split; tuners = l.initial.tuners }) (record { split = l.split; tuners = l.tuners }) l.i
 
 abbrev pub decreases-loop-i : goal.decreases-loop-i
 decreases-loop-i l = length l.piece - l.i

@@ -11,11 +11,11 @@ use Rattle.tally.proofs.Counting.{packet_at}
 use Rattle.tally.proofs.counts.counted.Goals as goal
 
 pub returns-then-tuner-gt3 : goal.returns-then-tuner-gt3
-returns-then-tuner-gt3 c = let a = c.args in rw (packet_at a.t2 a.t1 (search rules)) (sym (set_out a.t1 _ _ (omega arith)))
+returns-then-tuner-gt3 c = let a = c.args in rw (packet_at a.held a.tuners (search rules)) (sym (set_out a.tuners _ _ (omega arith)))
 
 pub returns : goal.returns
 returns c =
     let a = c.args in
-    let e : c.packet_more-more.result ≡ after_packet (reception_of (take 42 (drop 5 a.t2))) (get_or a.t1 (get_or a.t2 4 0) silence) =
-    c.packet_more-more.ensures ∙ ap (λ x. after_packet x (get_or a.t1 (get_or a.t2 4 0) silence)) c.read-reading.ensures.0 in
-    rw (packet_at a.t2 a.t1 (search rules), e)
+    let e : c.packet_more-more.result ≡ after_packet (reception_of (take 42 (drop 5 a.held))) (get_or a.tuners (get_or a.held 4 0) silence) =
+    c.packet_more-more.ensures ∙ ap (λ x. after_packet x (get_or a.tuners (get_or a.held 4 0) silence)) c.read-reading.ensures.result_value in
+    rw (packet_at a.held a.tuners (search rules), e)
