@@ -37,7 +37,7 @@ use Rattle.history.specs.Laws.{Sound}
 use Rattle.history.proofs.Windows.{open_not_ended, matches_open}
 use Rattle.history.proofs.Alike.{key_pass}
 use Rattle.history.proofs.Waits.{pass_to_clock, pass_to_settled}
-use Rattle.history.proofs.Steps.{moved, other_slot}
+use Rattle.history.proofs.Steps.{other_slot}
 use Rattle.history.proofs.Keeps.{active_before}
 use Rattle.history.proofs.OneCopy.{same_open}
 use Rattle.history.proofs.Stays.{starts}

@@ -19,7 +19,7 @@ walked_least (suc n) d = go (quiet d) refl (walked_least n (next_second d))
     go true e ih = record { within = omega arith; before = λ j h. absurd (not-suc-le-zero h); then_quiet = λ h. e }
     go false e ih = record {
       within = omega (arith, ih.within);
-      before = λ j. elim j [ zero ↦ λ h. e | suc i ↦ λ h. ih.before i (le_of_suc-le-suc h) ];
+      before = λ j. elim j as (λ k. k < suc (walked_in n (next_second d)) → quiet (walk k d) ≡ false) [ zero ↦ λ h. e | suc i ↦ λ h. ih.before i (le_of_suc-le-suc h) ];
       then_quiet = λ h. ih.then_quiet (le_of_suc-le-suc h);
     }
 

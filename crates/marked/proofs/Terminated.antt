@@ -15,7 +15,6 @@ use Rattle.label.specs.declared.Label.{Label}
 use Rattle.label.specs.declared.pil.Service.TheVariants.{Programme, InhibitTerminate}
 use Rattle.label.specs.Packet.{reading_of}
 use Rattle.label.specs.Pil.{service_of}
-use Rattle.answer.proofs.Every.{accepted}
 use Rattle.places.specs.Places.{no_label, flag, stands, stamped, heard_at, labels_fail}
 use Rattle.matching.specs.Matching.{open_at, ended_at, matches, sight_of}
 use Rattle.matching.proofs.Codes.{codes_match_nothing}
