@@ -1,14 +1,13 @@
 -- A page fed piece by piece prints what the definition over the whole input says.
-use Prim.Native.Nat.{ℕ, zero, suc, ◌≤◌}
+use Prim.Native.Nat.{ℕ, zero, suc}
 use mathlib.Core.Path.{◌≡◌, refl, sym, ap, ◌∙◌}
 use mathlib.Core.Bool.{true}
 use mathlib.Core.List.{List, [], ◌∷◌, ◌++◌, append-nil, append_assoc}
 use native.Mathlib.Omega.{arith}
 use native.Mathlib.Decide.{dec_lt}
-use borrow.Author.Tests.{leb-true, le-leb}
-use lib.ListN.{length, take, replicate, length-replicate}
+use borrow.Author.Tests.{leb-true}
+use lib.ListN.{length, take, length-replicate}
 use lib.Seq.{take_all, length-sets}
-use Rattle.programmes.specs.Page.{reading_of}
 use Rattle.programmes.proofs.Proved.{laws}
 use Rattle.listing.specs.declared.Collected.{Collected}
 use Rattle.listing.specs.Listing.{listing, listing_of}

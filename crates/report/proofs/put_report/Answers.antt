@@ -32,9 +32,9 @@ pub returns : goal.returns
 unfolding report
 returns c =
     let a = c.args in
-    let line : ℕ → List ℕ = λ k. tuner_line k (get_or a.t2 k silence) in
+    let line : ℕ → List ℕ = λ k. tuner_line k (get_or a.tuners k silence) in
     let end = last_line a.whole in
-    let from-3 = then c.tuner_line-third.new.0 c.tuner_line-third.result (line 3) end c.tuner_line-last.ensures c.last_Line.ensures in
-    let from-2 = then c.tuner_line-second.new.0 c.tuner_line-second.result (line 2) (line 3 ++ end) c.tuner_line-third.ensures from-3 in
-    let from-1 = then c.tuner_line-first.new.0 c.tuner_line-first.result (line 1) (line 2 ++ (line 3 ++ end)) c.tuner_line-second.ensures from-2 in
-    then a.out-1.now 0 (line 0) (line 1 ++ (line 2 ++ (line 3 ++ end))) c.tuner_line-first.ensures from-1
+    let from-3 = then c.tuner_line-third.new.out c.tuner_line-third.result (line 3) end c.tuner_line-last.ensures c.last_line.ensures in
+    let from-2 = then c.tuner_line-second.new.out c.tuner_line-second.result (line 2) (line 3 ++ end) c.tuner_line-third.ensures from-3 in
+    let from-1 = then c.tuner_line-first.new.out c.tuner_line-first.result (line 1) (line 2 ++ (line 3 ++ end)) c.tuner_line-second.ensures from-2 in
+    then a.out.now 0 (line 0) (line 1 ++ (line 2 ++ (line 3 ++ end))) c.tuner_line-first.ensures from-1

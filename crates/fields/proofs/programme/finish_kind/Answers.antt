@@ -7,7 +7,7 @@ pub returns-in-Absent : goal.returns-in-Absent
 returns-in-Absent c = ap finish_kind (sym c.in-Absent.is)
 
 pub returns-in-Time : goal.returns-in-Time
-returns-in-Time c = ap finish_kind (sym c.enum_told-in-Time-1.given.1)
+returns-in-Time c = ap finish_kind (sym c.in-Time.is)
 
 pub returns-in-Duration : goal.returns-in-Duration
-returns-in-Duration c = ap finish_kind (sym c.enum_told-in-Duration-1.given.1)
+returns-in-Duration c = ap finish_kind (sym c.in-Duration.is)

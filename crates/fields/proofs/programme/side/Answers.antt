@@ -7,4 +7,4 @@ pub returns-in-East : goal.returns-in-East
 returns-in-East c = ap side (sym c.in-East.is)
 
 pub returns-in-West : goal.returns-in-West
-returns-in-West c = ap side (sym c.enum_told-in-West-1.given.1)
+returns-in-West c = ap side (sym c.in-West.is)

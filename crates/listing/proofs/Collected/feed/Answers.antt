@@ -1,6 +1,5 @@
 -- `feed`'s loop: the bytes passed are stored after those held. The measure is how many are left.
 use borrow.Author.Rules.{rules}
-use Prim.Native.Nat.{◌-◌}
 use mathlib.Core.Path.{◌≡◌, refl}
 use native.Mathlib.Omega.{arith}
 use Rattle.listing.proofs.Keeping.{kept_more, all_kept}
@@ -12,13 +11,11 @@ loop-i-init c = (search rules, refl)
 pub loop-i-preserved : goal.loop-i-preserved
 loop-i-preserved c =
     let a = c.args in
-    (search rules, kept_more a.piece.now c.least-start.result c.loop-i.i a.self.bytes-1 c.loop-i.bytes-1 (search rules) c.loop-i.invariant.1)
+    (search rules, kept_more a.piece.now c.least-start.result c.loop-i.i a.self.bytes c.loop-i.bytes (search rules) c.loop-i.invariant.1)
 
-pub returns : goal.returns
-returns c =
+pub returns-clause-value : goal.returns-clause-value
+returns-clause-value c =
     let a = c.args in
-    let all : c.loop-i.i ≡ c.least-more.result = omega arith in (
-      all_kept a.piece.now a.self c.least-start.result c.least-more.result c.loop-i.bytes-1 c.least-start.ensures c.least-more.ensures
-          (rw all at c.loop-i.invariant.1),
-      refl,
-    )
+    let all : c.loop-i.i ≡ c.least-more.result = omega arith in
+    all_kept a.piece.now a.self c.least-start.result c.least-more.result c.loop-i.bytes c.least-start.ensures c.least-more.ensures
+    (rw all at c.loop-i.invariant.1)

@@ -14,7 +14,7 @@ use Rattle.listing.proofs.Collected.report.Goals as goal
 pub returns-then-out-lt-LONGEST : goal.returns-then-out-lt-LONGEST
 unfolding reported_by out_after
 returns-then-out-lt-LONGEST c =
-    let short : leb longest (length c.args.out-1.now) ≡ false = lt-leb _ _ c.if-out-lt-LONGEST.true in
+    let short : leb longest (length c.args.out.now) ≡ false = lt-leb _ _ c.if-out-lt-LONGEST.true in
     rw short (refl, refl)
 
 pub returns : goal.returns
@@ -24,5 +24,5 @@ returns c =
     let r = c.read_held-reading.result in
     let told : read_lines (read_number r.verdict) r.page ≡ listing_of (held a.self) = read_lines_lem (held a.self) r c.read_held-reading.ensures in
     let stored = rw told at c.put_reading.ensures in
-    let room : leb longest (length a.out-1.now) ≡ true = le-leb _ _ c.if-out-lt-LONGEST.false in
+    let room : leb longest (length a.out.now) ≡ true = le-leb _ _ c.if-out-lt-LONGEST.false in
     rw room (stored.0 ∙ zero-add _, stored.1)

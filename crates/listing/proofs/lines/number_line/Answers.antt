@@ -14,5 +14,5 @@ put-requires c =
 pub returns : goal.returns
 returns c =
     let a = c.args in
-    let rest = then c.put-number.new.0 c.put-number.result (column a.n) (line_feed ∷ []) c.put_column-end.ensures c.put.ensures in
-    then a.out-1.now a.at (a.letter ∷ []) (column a.n ++ (line_feed ∷ [])) c.put-number.ensures rest
+    let rest = then c.put-number.new.out c.put-number.result (column a.n) (line_feed ∷ []) c.put_column-end.ensures c.put.ensures in
+    then a.out.now a.at (a.letter ∷ []) (column a.n ++ (line_feed ∷ [])) c.put-number.ensures rest

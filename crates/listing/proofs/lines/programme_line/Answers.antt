@@ -19,5 +19,5 @@ pub returns : goal.returns
 unfolding programme_line
 returns c =
     let a = c.args in
-    let rest = then c.put_beginning-middle.new.0 c.put_beginning-middle.result (ending a.q) (line_feed ∷ []) c.put_ending-end.ensures c.put.ensures in
-    then a.out-1.now a.at (beginning a.q) (ending a.q ++ (line_feed ∷ [])) c.put_beginning-middle.ensures rest
+    let rest = then c.put_beginning-middle.new.out c.put_beginning-middle.result (ending a.q) (line_feed ∷ []) c.put_ending-end.ensures c.put.ensures in
+    then a.out.now a.at (beginning a.q) (ending a.q ++ (line_feed ∷ [])) c.put_beginning-middle.ensures rest

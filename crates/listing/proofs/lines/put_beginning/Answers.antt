@@ -31,8 +31,8 @@ returns c =
     let place' = pair q.row q.column in
     let day = pair q.day q.month in
     let hour = pair q.hour q.minute in
-    let timed : Stored c.put_pair-start.new.0 c.put_pair-start.result hour c.put_pair.result c.put_pair.new.0 =
+    let timed : Stored c.put_pair-start.new.out c.put_pair-start.result hour c.put_pair.result c.put_pair.new.out =
     c.put_pair.ensures in
-    let from-date = then c.put_pair-date.new.0 c.put_pair-date.result day hour c.put_pair-start.ensures timed in
-    let from_place = then c.put-place.new.0 c.put-place.result place' (day ++ hour) c.put_pair-date.ensures from-date in
-    then a.out-1.now a.at (71 ∷ []) (place' ++ (day ++ hour)) c.put-place.ensures from_place
+    let from-date = then c.put_pair-date.new.out c.put_pair-date.result day hour c.put_pair-start.ensures timed in
+    let from_place = then c.put-place.new.out c.put-place.result place' (day ++ hour) c.put_pair-date.ensures from-date in
+    then a.out.now a.at (71 ∷ []) (place' ++ (day ++ hour)) c.put-place.ensures from_place

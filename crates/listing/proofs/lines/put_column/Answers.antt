@@ -7,4 +7,4 @@ use Rattle.listing.proofs.lines.put_column.Goals as goal
 pub returns : goal.returns
 returns c =
     let a = c.args in
-    then a.out-1.now a.at (space ∷ []) (decimal_in 3 a.n) c.put-next.ensures c.put_decimal.ensures
+    then a.out.now a.at (space ∷ []) (decimal_in 3 a.n) c.put-next.ensures c.put_decimal.ensures

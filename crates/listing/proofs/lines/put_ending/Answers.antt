@@ -38,9 +38,9 @@ returns c =
     let f = flag_column q.controlled in
     let o = offset_column q.offset in
     let n = pair q.country q.source in
-    let flagged : Stored c.put_offset-controlled.new.0 c.put_offset-controlled.result f c.put_column-series.result c.put_column-series.new.0 =
+    let flagged : Stored c.put_offset-controlled.new.out c.put_offset-controlled.result f c.put_column-series.result c.put_column-series.new.out =
     rw (← flag) c.put_column-series.ensures in
-    let from-flag = then c.put_offset-controlled.new.0 c.put_offset-controlled.result f s flagged c.put_series.ensures in
-    let from-offset = then c.put_pair-offset.new.0 c.put_pair-offset.result o (f ++ s) c.put_offset-controlled.ensures from-flag in
-    let from-source = then c.put_finish-source.new.0 c.put_finish-source.result n (o ++ (f ++ s)) c.put_pair-offset.ensures from-offset in
-    then a.out-1.now a.at (finish_column q.finish) (n ++ (o ++ (f ++ s))) c.put_finish-source.ensures from-source
+    let from-flag = then c.put_offset-controlled.new.out c.put_offset-controlled.result f s flagged c.put_series.ensures in
+    let from-offset = then c.put_pair-offset.new.out c.put_pair-offset.result o (f ++ s) c.put_offset-controlled.ensures from-flag in
+    let from-source = then c.put_finish-source.new.out c.put_finish-source.result n (o ++ (f ++ s)) c.put_pair-offset.ensures from-offset in
+    then a.out.now a.at (finish_column q.finish) (n ++ (o ++ (f ++ s))) c.put_finish-source.ensures from-source

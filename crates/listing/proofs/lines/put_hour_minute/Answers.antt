@@ -16,5 +16,5 @@ put_decimal-requires c =
 pub returns : goal.returns
 returns c =
     let a = c.args in
-    let rest = then c.put_decimal-colon.new.0 c.put_decimal-colon.result (colon ∷ []) (decimal_in 3 a.m) c.put-next.ensures c.put_decimal.ensures in
-    then a.out-1.now a.at (decimal_in 3 a.h) (colon ∷ decimal_in 3 a.m) c.put_decimal-colon.ensures rest
+    let rest = then c.put_decimal-colon.new.out c.put_decimal-colon.result (colon ∷ []) (decimal_in 3 a.m) c.put-next.ensures c.put_decimal.ensures in
+    then a.out.now a.at (decimal_in 3 a.h) (colon ∷ decimal_in 3 a.m) c.put_decimal-colon.ensures rest

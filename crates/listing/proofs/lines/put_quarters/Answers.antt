@@ -14,4 +14,4 @@ put_decimal-requires c = omega (arith, sign_short c.args.west minus)
 pub returns : goal.returns
 returns c =
     let a = c.args in
-    then a.out-1.now a.at (space ∷ cond a.west (minus ∷ []) []) (decimal_in 3 a.q) c.put_sign-next.ensures c.put_decimal.ensures
+    then a.out.now a.at (space ∷ cond a.west (minus ∷ []) []) (decimal_in 3 a.q) c.put_sign-next.ensures c.put_decimal.ensures

@@ -14,4 +14,4 @@ put_hour_minute-requires c = omega (arith, sign_short c.args.duration plus)
 pub returns : goal.returns
 returns c =
     let a = c.args in
-    then a.out-1.now a.at (space ∷ cond a.duration (plus ∷ []) []) (hour_minute a.h a.m) c.put_sign-next.ensures c.put_hour_minute.ensures
+    then a.out.now a.at (space ∷ cond a.duration (plus ∷ []) []) (hour_minute a.h a.m) c.put_sign-next.ensures c.put_hour_minute.ensures

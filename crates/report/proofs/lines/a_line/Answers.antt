@@ -33,11 +33,11 @@ returns c =
     let a = c.args in
     let h = a.h in
     let end = line_feed ∷ [] in
-    let from-4 = then c.put_column-refused.new.0 c.put_column-refused.result (column h.refused) end c.put_column-end.ensures c.put.ensures in
-    let from-3 = then c.put_column-bytes.new.0 c.put_column-bytes.result (column h.bytes) (column h.refused ++ end) c.put_column-refused.ensures from-4 in
-    let from-2 = then c.put_column-mended.new.0 c.put_column-mended.result (column h.mended) (column h.bytes ++ (column h.refused ++ end)) c.put_column-bytes.ensures from-3 in
+    let from-4 = then c.put_column-refused.new.out c.put_column-refused.result (column h.refused) end c.put_column-end.ensures c.put.ensures in
+    let from-3 = then c.put_column-bytes.new.out c.put_column-bytes.result (column h.bytes) (column h.refused ++ end) c.put_column-refused.ensures from-4 in
+    let from-2 = then c.put_column-mended.new.out c.put_column-mended.result (column h.mended) (column h.bytes ++ (column h.refused ++ end)) c.put_column-bytes.ensures from-3 in
     let from-1 =
-    then c.open_line-clean.new.0 c.open_line-clean.result (column h.clean) (column h.mended ++ (column h.bytes ++ (column h.refused ++ end)))
+    then c.open_line-clean.new.out c.open_line-clean.result (column h.clean) (column h.mended ++ (column h.bytes ++ (column h.refused ++ end)))
     c.put_column-mended.ensures from-2 in
-    then a.out-1.now a.at (65 ∷ space ∷ digit a.tuner ∷ [])
+    then a.out.now a.at (65 ∷ space ∷ digit a.tuner ∷ [])
     (column h.clean ++ (column h.mended ++ (column h.bytes ++ (column h.refused ++ end)))) c.open_line-clean.ensures from-1

@@ -8,4 +8,4 @@ pub returns : goal.returns
 returns c =
     let a = c.args in
     rw (← c.letter.ensures)
-    (then a.out-1.now a.at (c.letter.result ∷ []) (line_feed ∷ []) c.put-next.ensures c.put.ensures)
+    (then a.out.now a.at (c.letter.result ∷ []) (line_feed ∷ []) c.put-next.ensures c.put.ensures)

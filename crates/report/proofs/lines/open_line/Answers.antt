@@ -7,5 +7,5 @@ use Rattle.report.proofs.lines.open_line.Goals as goal
 pub returns : goal.returns
 returns c =
     let a = c.args in
-    let two = then c.put-gap.new.0 c.put-gap.result (space ∷ []) (c.digit.result ∷ []) c.put-next.ensures c.put.ensures in
-    rw (← c.digit.ensures) (then a.out-1.now a.at (65 ∷ []) (space ∷ c.digit.result ∷ []) c.put-gap.ensures two)
+    let two = then c.put-gap.new.out c.put-gap.result (space ∷ []) (c.digit.result ∷ []) c.put-next.ensures c.put.ensures in
+    rw (← c.digit.ensures) (then a.out.now a.at (65 ∷ []) (space ∷ c.digit.result ∷ []) c.put-gap.ensures two)
