@@ -186,6 +186,7 @@ fn number_line(out: &mut [u8], at: usize, letter: u8, n: usize) -> usize
 }
 
 // 'Then `Z count`.'
+#[tactic(auto, unfolding(crate::specs::View::count_line))]
 pub(crate) fn count_line(out: &mut [u8], at: usize, count: usize) -> usize
     requires { at + 6 ≤ length out.old }
     ensures { Stored out.old at (count_line count) result out.new }
@@ -194,6 +195,7 @@ pub(crate) fn count_line(out: &mut [u8], at: usize, count: usize) -> usize
 }
 
 // 'For a refused page `R number` alone.'
+#[tactic(auto, unfolding(crate::specs::View::refusal_line))]
 pub(crate) fn refusal_line(out: &mut [u8], at: usize, number: u8) -> usize
     requires { at + 6 ≤ length out.old }
     ensures { Stored out.old at (refusal_line number) result out.new }

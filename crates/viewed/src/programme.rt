@@ -24,6 +24,7 @@ fn quarters(o: Offset) -> u8
     }
 }
 
+#[tactic(auto, unfolding(crate::specs::Viewed::programme_bytes))]
 pub(crate) fn bytes_of(q: Programme) -> [u8; 16]
     ensures { result ≡ programme_bytes q }
 {

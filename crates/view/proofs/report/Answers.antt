@@ -16,7 +16,7 @@ pub returns-then-out-lt-LONGEST : goal.returns-then-out-lt-LONGEST
 unfolding reported_by out_after
 returns-then-out-lt-LONGEST c =
     let a = c.args in
-    let short : leb longest (length a.out-1.now) ≡ false = lt-leb _ _ c.if-out-lt-LONGEST.true in
+    let short : leb longest (length a.out.now) ≡ false = lt-leb _ _ c.if-out-lt-LONGEST.true in
     (answer_of (held a.collected), answered (held a.collected), rw short refl, rw short refl)
 
 pub returns : goal.returns
@@ -26,5 +26,5 @@ returns c =
     let r = c.read-reading.result in
     let (b, w, told) = read_lines_lem (held a.collected) r c.read-reading.ensures in
     let stored = rw told at c.put_reading.ensures in
-    let room : leb longest (length a.out-1.now) ≡ true = le-leb _ _ c.if-out-lt-LONGEST.false in
+    let room : leb longest (length a.out.now) ≡ true = le-leb _ _ c.if-out-lt-LONGEST.false in
     (b, w, rw room (stored.0 ∙ zero-add _), rw room stored.1)

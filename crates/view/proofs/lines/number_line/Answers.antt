@@ -1,5 +1,5 @@
 -- `number_line`: a letter, a number, and the line's end.
-use mathlib.Core.List.{◌∷◌, ◌++◌}
+use mathlib.Core.List.{[], ◌∷◌, ◌++◌}
 use native.Mathlib.Omega.{arith}
 use Rattle.answer.specs.Text.{line_feed}
 use Rattle.answer.proofs.Texts.{then}
@@ -14,5 +14,5 @@ put-requires c =
 pub returns : goal.returns
 returns c =
     let a = c.args in
-    let rest = then c.put-number.new.0 c.put-number.result (column a.n) (line_feed ∷ []) c.put_column-end.ensures c.put.ensures in
-    then a.out-1.now a.at (a.letter ∷ []) (column a.n ++ (line_feed ∷ [])) c.put-number.ensures rest
+    let rest = then c.put-number.new.out c.put-number.result (column a.n) (line_feed ∷ []) c.put_column-end.ensures c.put.ensures in
+    then a.out.now a.at (a.letter ∷ []) (column a.n ++ (line_feed ∷ [])) c.put-number.ensures rest

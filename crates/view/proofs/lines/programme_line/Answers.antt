@@ -1,5 +1,5 @@
 -- `programme_line`: the line's three parts, and its end.
-use mathlib.Core.List.{◌∷◌, ◌++◌}
+use mathlib.Core.List.{[], ◌∷◌, ◌++◌}
 use native.Mathlib.Omega.{arith}
 use Rattle.answer.specs.Text.{line_feed}
 use Rattle.answer.proofs.Texts.{then}
@@ -26,7 +26,7 @@ returns c =
     let a = c.args in
     let e = ending a.q in
     let m = middle a.q in
-    let from-third = then c.put_middle-original.new.0 c.put_middle-original.result e (line_feed ∷ []) c.put_ending-end.ensures c.put.ensures in
+    let from-third = then c.put_middle-original.new.out c.put_middle-original.result e (line_feed ∷ []) c.put_ending-end.ensures c.put.ensures in
     let from_Second =
-    then c.put_beginning-date.new.0 c.put_beginning-date.result m (e ++ (line_feed ∷ [])) c.put_middle-original.ensures from-third in
-    then a.out-1.now a.at (beginning a.q) (m ++ (e ++ (line_feed ∷ []))) c.put_beginning-date.ensures from_Second
+    then c.put_beginning-date.new.out c.put_beginning-date.result m (e ++ (line_feed ∷ [])) c.put_middle-original.ensures from-third in
+    then a.out.now a.at (beginning a.q) (m ++ (e ++ (line_feed ∷ []))) c.put_beginning-date.ensures from_Second

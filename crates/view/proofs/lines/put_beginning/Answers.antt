@@ -1,5 +1,5 @@
 -- `put_beginning`: the line's letter, the title's place, and both times.
-use mathlib.Core.List.{◌∷◌, ◌++◌}
+use mathlib.Core.List.{[], ◌∷◌, ◌++◌}
 use native.Mathlib.Omega.{arith}
 use Rattle.answer.proofs.Texts.{then}
 use Rattle.view.specs.View.{pair, time_column, beginning}
@@ -24,6 +24,6 @@ returns c =
     let p = pair q.row q.column in
     let s = time_column q.start in
     let f = time_column q.finish in
-    let from_start = then c.put_pair-start.new.0 c.put_pair-start.result s f c.put_time-finish.ensures c.put_time.ensures in
-    let from_place = then c.put-place.new.0 c.put-place.result p (s ++ f) c.put_pair-start.ensures from_start in
-    then a.out-1.now a.at (86 ∷ []) (p ++ (s ++ f)) c.put-place.ensures from_place
+    let from_start = then c.put_pair-start.new.out c.put_pair-start.result s f c.put_time-finish.ensures c.put_time.ensures in
+    let from_place = then c.put-place.new.out c.put-place.result p (s ++ f) c.put_pair-start.ensures from_start in
+    then a.out.now a.at (86 ∷ []) (p ++ (s ++ f)) c.put-place.ensures from_place

@@ -26,7 +26,7 @@ returns c =
     let told : c.record.result ≡ record_of q.original = c.record.ensures in
     let p = pair q.pty (record_of q.original) in
     let o = offset_column q.offset in
-    let typed : Stored c.put_offset-pty.new.0 c.put_offset-pty.result p c.put_pair.result c.put_pair.new.0 =
+    let typed : Stored c.put_offset-pty.new.out c.put_offset-pty.result p c.put_pair.result c.put_pair.new.out =
     rw (← told) c.put_pair.ensures in
-    let from-offset = then c.put_time-offset.new.0 c.put_time-offset.result o p c.put_offset-pty.ensures typed in
-    then a.out-1.now a.at (time_column q.original) (o ++ p) c.put_time-offset.ensures from-offset
+    let from-offset = then c.put_time-offset.new.out c.put_time-offset.result o p c.put_offset-pty.ensures typed in
+    then a.out.now a.at (time_column q.original) (o ++ p) c.put_time-offset.ensures from-offset

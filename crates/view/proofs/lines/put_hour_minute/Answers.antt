@@ -1,5 +1,5 @@
 -- `put_hour_minute`: two numbers of at most three digits, and a colon between them.
-use mathlib.Core.List.{◌∷◌}
+use mathlib.Core.List.{[], ◌∷◌}
 use native.Mathlib.Omega.{arith}
 use Rattle.answer.specs.Text.{decimal_in}
 use Rattle.answer.proofs.Texts.{then, decimal_short}
@@ -16,5 +16,5 @@ put_decimal-requires c =
 pub returns : goal.returns
 returns c =
     let a = c.args in
-    let rest = then c.put_decimal-colon.new.0 c.put_decimal-colon.result (colon ∷ []) (decimal_in 3 a.m) c.put-next.ensures c.put_decimal.ensures in
-    then a.out-1.now a.at (decimal_in 3 a.h) (colon ∷ decimal_in 3 a.m) c.put_decimal-colon.ensures rest
+    let rest = then c.put_decimal-colon.new.out c.put_decimal-colon.result (colon ∷ []) (decimal_in 3 a.m) c.put-next.ensures c.put_decimal.ensures in
+    then a.out.now a.at (decimal_in 3 a.h) (colon ∷ decimal_in 3 a.m) c.put_decimal-colon.ensures rest

@@ -28,5 +28,5 @@ returns c =
     let q = a.q in
     let y = column q.year in
     let n = network_column q.network in
-    let from-year = then c.put_pair-year.new.0 c.put_pair-year.result y n c.put_column-network.ensures c.put_network.ensures in
-    then a.out-1.now a.at (pair q.day q.month) (y ++ n) c.put_pair-year.ensures from-year
+    let from-year = then c.put_pair-year.new.out c.put_pair-year.result y n c.put_column-network.ensures c.put_network.ensures in
+    then a.out.now a.at (pair q.day q.month) (y ++ n) c.put_pair-year.ensures from-year

@@ -11,4 +11,4 @@ put_column-requires c = omega (arith, column_short c.args.a)
 pub returns : goal.returns
 returns c =
     let a = c.args in
-    then a.out-1.now a.at (column a.a) (column a.b) c.put_column-next.ensures c.put_column.ensures
+    then a.out.now a.at (column a.a) (column a.b) c.put_column-next.ensures c.put_column.ensures

@@ -1,6 +1,6 @@
 -- `put_quarters`: a gap, a sign where they are negative, and the quarter hours.
 use mathlib.Core.Bool.{cond}
-use mathlib.Core.List.{◌∷◌}
+use mathlib.Core.List.{[], ◌∷◌}
 use native.Mathlib.Omega.{arith}
 use Rattle.answer.specs.Text.{space, decimal_in}
 use Rattle.answer.proofs.Texts.{then}
@@ -14,4 +14,4 @@ put_decimal-requires c = omega (arith, sign_short c.args.negative minus)
 pub returns : goal.returns
 returns c =
     let a = c.args in
-    then a.out-1.now a.at (space ∷ cond a.negative (minus ∷ []) []) (decimal_in 3 a.q) c.put_sign-next.ensures c.put_decimal.ensures
+    then a.out.now a.at (space ∷ cond a.negative (minus ∷ []) []) (decimal_in 3 a.q) c.put_sign-next.ensures c.put_decimal.ensures

@@ -1,7 +1,7 @@
 -- `put_sign`: a gap, and the sign where it is shown.
 use mathlib.Core.Bool.{true, false}
 use mathlib.Core.Path.{◌≡◌}
-use mathlib.Core.List.{◌∷◌}
+use mathlib.Core.List.{[], ◌∷◌}
 use Rattle.answer.specs.Text.{space}
 use Rattle.answer.proofs.Texts.{then}
 use Rattle.view.proofs.lines.put_sign.Goals as goal
@@ -10,7 +10,7 @@ pub returns-then-shown : goal.returns-then-shown
 returns-then-shown c =
     let a = c.args in
     let shown : a.shown ≡ true = c.if-shown.true in
-    rw shown (then a.out-1.now a.at (space ∷ []) (a.sign ∷ []) c.put-next.ensures c.put.ensures)
+    rw shown (then a.out.now a.at (space ∷ []) (a.sign ∷ []) c.put-next.ensures c.put.ensures)
 
 pub returns : goal.returns
 returns c =

@@ -1,6 +1,6 @@
 -- `put_page`'s loop: the lines of the programmes passed are stored (`Along`). The measure is how many are left.
 use borrow.Author.Rules.{rules}
-use Prim.Native.Nat.{◌-◌, min}
+use Prim.Native.Nat.{min}
 use mathlib.Core.Path.{◌≡◌}
 use native.Mathlib.Omega.{arith}
 use lib.ListN.{take}
@@ -25,12 +25,8 @@ pub count_line-requires : goal.count_line-requires
 count_line-requires c =
     omega (arith, short c.loop-i.invariant.0, same_room c.loop-i.invariant.0, c.requires)
 
-pub shape_of-out : goal.shape_of-out
-shape_of-out c =
-    omega (arith, c.count_line.auto.0, same_room c.loop-i.invariant.0)
-
 pub returns : goal.returns
 returns c =
     let a = c.args in
     let all : c.loop-i.i ≡ min a.count most = omega (arith, c.least-shown.ensures) in
-    then a.out-1.now 0 (programme_lines (take a.count a.t2)) (count_line a.count) (whole c.loop-i.invariant.0 a.count all) c.count_line.ensures
+    then a.out.now 0 (programme_lines (take a.count a.programmes)) (count_line a.count) (whole c.loop-i.invariant.0 a.count all) c.count_line.ensures

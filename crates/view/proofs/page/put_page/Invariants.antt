@@ -4,7 +4,7 @@ use Rattle.view.proofs.Storing.{Along}
 use Rattle.view.proofs.page.put_page.Given as goal
 
 abbrev pub invariant-loop-i : goal.invariant-loop-i
-invariant-loop-i l = Along l.count l.shown l.i l.out l.at × (l.i ≤ l.initial.out)
+invariant-loop-i l = Along l.initial.out l.programmes l.i l.out l.at × (l.i ≤ l.shown)
 
 abbrev pub decreases-loop-i : goal.decreases-loop-i
-decreases-loop-i l = l.initial.out - l.i
+decreases-loop-i l = l.shown - l.i

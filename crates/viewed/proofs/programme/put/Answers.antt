@@ -1,6 +1,6 @@
 -- `put` stores the sixteen bytes one after the other.
 use borrow.Author.Rules.{rules}
-use Prim.Native.Nat.{ℕ, suc, ◌+◌, ◌-◌, ◌≤◌}
+use Prim.Native.Nat.{ℕ, suc, ◌+◌, ◌≤◌}
 use mathlib.Core.Path.{◌≡◌, ap, ◌∙◌}
 use native.Mathlib.Numerals.{add-one}
 use native.Mathlib.Omega.{arith}
@@ -15,7 +15,7 @@ kept : (out₀ : List ℕ) (at : ℕ) (bytes : List ℕ) {out : List ℕ} {j : �
 kept out₀ at bytes {out} {j} h = ap length h.3 ∙ length-paste out₀ at bytes j (omega arith) (omega arith)
 
 pub loop-j-init : goal.loop-j-init
-loop-j-init c = let a = c.args in (search rules, search rules, search rules, paste-zero a.out.now a.at a.t3)
+loop-j-init c = let a = c.args in (search rules, search rules, search rules, paste-zero a.out.now a.at a.bytes)
 
 pub bounds-out-at : goal.bounds-out-at
 bounds-out-at c =
@@ -27,17 +27,13 @@ loop-j-preserved c =
     let a = c.args in
     let j = c.loop-j.j in
     let inv = c.loop-j.invariant in
-    let e : set (paste a.out.now a.at a.t3 j) (a.at + j) (get_or a.t3 j 0) ≡ paste a.out.now a.at a.t3 (suc j) =
-    paste-suc a.out.now a.at a.t3 j 0 (search rules) (search rules) in
+    let e : set (paste a.out.now a.at a.bytes j) (a.at + j) (get_or a.bytes j 0) ≡ paste a.out.now a.at a.bytes (suc j) =
+    paste-suc a.out.now a.at a.bytes j 0 (search rules) (search rules) in
     (search rules, search rules, search rules, rw (inv.3, add-one) e)
-
-pub shape_of-out : goal.shape_of-out
-shape_of-out c =
-    kept c.args.out.now c.args.at c.args.bytes c.loop-j.invariant
 
 pub returns : goal.returns
 returns c =
     let a = c.args in
     let inv = c.loop-j.invariant in
     let e : c.loop-j.j ≡ 16 = omega arith in
-    inv.3 ∙ rw e (pasted a.out.now a.at a.t3 inv.1 inv.2)
+    inv.3 ∙ rw e (pasted a.out.now a.at a.bytes inv.1 inv.2)
