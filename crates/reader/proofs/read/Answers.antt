@@ -10,7 +10,8 @@ use lib.Dec.{ltb, eqb}
 use lib.ListN.{length, get_or}
 use Rattle.answer.specs.Answer.{refused, given}
 use Rattle.answer.specs.Lists.{some}
-use Rattle.label.specs.Packet.{reader_rows, reception_of, label_in, mended_in, format2, value_of, value_at, damaged_at, label_bytes}
+use Rattle.answer.proofs.Counts.{bit_le}
+use Rattle.label.specs.Packet.{mended_at, reader_rows, reception_of, label_in, mended_in, format2, value_of, value_at, damaged_at, label_bytes}
 use Rattle.label.proofs.Nibbles.{over}
 use Rattle.label.proofs.Mended.{mended_sum, few_mended}
 use Rattle.label.proofs.Rows.{Passed, test_at, number_at, refused_at, given_past, that_length, other_length}
@@ -97,7 +98,23 @@ returns-then-sent-clause-result_value c =
     let d = c.value-v2.ensures ∙ ap value_of c.decode-n2.ensures in
     by 5 p (passed_5 p c.if-bytes-ne42.false a b c.if-v0-v1.false (ap not c.if-not-v0-v1.false) d c.if-v2-gt15.false (ap not c.if-not-v2.false)) (sym c.nibbles-sent.ensures.0 ∙ c.if-sent.true)
 
--- the first three bytes, each mended once at most, and with those of the label the count
+-- the first three bytes, each mended once at most
+pub overflow_add-first : goal.overflow_add-first
+overflow_add-first c =
+    let p = c.args.bytes.now in
+    let a = c.mends.ensures (get_or p 0 0) c.decode-n0.ensures in
+    let b = c.mends-2.ensures (get_or p 1 0) c.decode-n1.ensures in
+    record { fits = omega (arith, bit_le (mended_at p 0), bit_le (mended_at p 1)) }
+
+pub overflow_add-first-2 : goal.overflow_add-first-2
+overflow_add-first-2 c =
+    let p = c.args.bytes.now in
+    let a = c.mends.ensures (get_or p 0 0) c.decode-n0.ensures in
+    let b = c.mends-2.ensures (get_or p 1 0) c.decode-n1.ensures in
+    let d = c.mends-3.ensures (get_or p 2 0) c.decode-n2.ensures in
+    record { fits = omega (arith, bit_le (mended_at p 0), bit_le (mended_at p 1), bit_le (mended_at p 2)) }
+
+-- and with those of the label the count
 pub overflow_add-count : goal.overflow_add-count
 overflow_add-count c =
     let p = c.args.bytes.now in

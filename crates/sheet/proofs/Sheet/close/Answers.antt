@@ -12,15 +12,15 @@ last_line-next-requires c =
 pub returns-then-fits : goal.returns-then-fits
 unfolding closed_by out_closed end_told
 returns-then-fits c =
-    let e : c.whole-whole.result ≡ whole_at c.args.ended c.args.self.split-1 = c.whole-whole.ensures in
+    let e : c.whole-whole.result ≡ whole_at c.args.ended c.args.self.split = c.whole-whole.ensures in
     rw (
       sym c.has_room-fits.ensures ∙ c.if-fits.true,
       ← e,
-      c.letter.ensures c.args.self.desk-1,
+      c.letter.ensures c.args.self.desk,
       ← c.live-live.ensures,
-      c.last_Line.ensures.0,
+      c.last_line-next.ensures.0,
     )
-    (refl, c.last_Line.ensures.1)
+    (refl, c.last_line-next.ensures.1)
 
 pub returns : goal.returns
 unfolding closed_by out_closed

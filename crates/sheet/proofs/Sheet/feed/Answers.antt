@@ -7,11 +7,11 @@ use Rattle.sheet.proofs.Sheet.feed.Goals as goal
 pub play-requires : goal.play-requires
 play-requires c = leb-true _ _ (sym c.has_room-fits.ensures ∙ c.if-fits.true)
 
-pub returns-then-fits : goal.returns-then-fits
+pub returns-then-fits-clause-value : goal.returns-then-fits-clause-value
 unfolding fed_by out_after
-returns-then-fits c =
-    rw (sym c.has_room-fits.ensures ∙ c.if-fits.true) (c.play.ensures, refl)
+returns-then-fits-clause-value c =
+    rw (sym c.has_room-fits.ensures ∙ c.if-fits.true) c.play.ensures
 
-pub returns : goal.returns
+pub returns-clause-value : goal.returns-clause-value
 unfolding fed_by out_after
-returns c = rw (sym c.has_room-fits.ensures ∙ c.if-fits.false) ((refl, refl), refl)
+returns-clause-value c = rw (sym c.has_room-fits.ensures ∙ c.if-fits.false) (refl, refl)

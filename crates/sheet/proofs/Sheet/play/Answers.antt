@@ -1,6 +1,5 @@
 -- `play`'s loop: what is left of the piece, fed from here, comes to what the whole piece comes to, and finds room (`Along`).
 -- The measure is what is left of the piece.
-use Prim.Native.Nat.{◌-◌}
 use mathlib.Core.Bool.{true}
 use mathlib.Core.Path.{refl, ap}
 use native.Mathlib.Omega.{arith}
@@ -19,15 +18,15 @@ act-left-requires c = omega arith
 pub loop-i-smaller : goal.loop-i-smaller
 loop-i-smaller c =
     let p = c.args.piece.now in
-    let t = taking p c.loop-i.i c.loop-i.split-1 c.loop-i.invariant.within in
-    let e = c.take-taken.ensures.0 in
+    let t = taking p c.loop-i.i c.loop-i.split c.loop-i.invariant.within in
+    let e = c.take-taken.ensures.value in
     omega (arith, t.on c.loop-i-test.true, t.within, ap (λ (r : Taken). r.at) e)
 
 pub loop-i-preserved : goal.loop-i-preserved
 loop-i-preserved c =
     let left = c.act-left.ensures in
-    further c.loop-i.invariant c.take-taken.result c.take-taken.ensures.0 c.loop-i-test.true
-    left.1 (ap (λ (r : Left). r.desk-1) left.0) (ap (λ (r : Left). r.at) left.0)
+    further c.loop-i.invariant c.take-taken.result c.take-taken.ensures.value c.loop-i-test.true
+    left.1 (ap (λ (r : Left). r.desk) left.0) (ap (λ (r : Left). r.at) left.0)
 
 pub shape_of-out : goal.shape_of-out
 shape_of-out c = c.loop-i.invariant.long
@@ -35,4 +34,4 @@ shape_of-out c = c.loop-i.invariant.long
 pub returns : goal.returns
 returns c =
     let e = ended c.loop-i.invariant c.loop-i-test.false in
-    (ap (λ (o : Outcome). record { taken = true; sheet = o.sheet; at = o.at }) e, ap (λ (o : Outcome). o.out-1) e)
+    (ap (λ (o : Outcome). record { taken = true; sheet = o.sheet; at = o.at }) e, ap (λ (o : Outcome). o.out) e)

@@ -7,7 +7,8 @@ use Rattle.sheet.proofs.Sheet.play.Given as goal
 
 abbrev pub invariant-loop-i : goal.invariant-loop-i
 invariant-loop-i l =
-    Along l.piece l.at l.initial.end (record { l.desk = l.initial.desk; l.split = l.initial.split }) l.out l.end (record { l.desk = l.desk; l.split = l.split }) l.i
+    Along l.piece l.initial.out l.initial.end (record { desk = l.initial.desk; split = l.initial.split }) l.out l.end
+    (record { desk = l.desk; split = l.split }) l.i
 
 abbrev pub decreases-loop-i : goal.decreases-loop-i
 decreases-loop-i l = length l.piece - l.i

@@ -14,10 +14,10 @@ pub returns-in-Timer : goal.returns-in-Timer
 unfolding lines_of desk_left
 returns-in-Timer c =
     let a = c.args in
-    rw (c.enum_told-in-Timer-1.given.1, append-nil (timer_told (take 9 a.held) a.desk)) c.timer.ensures
+    rw (c.in-Timer.is, append-nil (timer_told (take 9 a.held) a.desk)) c.timer.ensures
 
 pub returns-in-Packet : goal.returns-in-Packet
 unfolding lines_of desk_left
 returns-in-Packet c =
     let a = c.args in
-    rw (c.enum_told-in-Packet-1.given.1, append-nil (packet_told (take 47 a.held) a.desk)) c.packet.ensures
+    rw (c.in-Packet.is, append-nil (packet_told (take 47 a.held) a.desk)) c.packet.ensures

@@ -8,26 +8,16 @@ use Rattle.reply.specs.Numbers.{add_answer}
 use Rattle.sheet.specs.Sheet.{booking_in, timer_told, timer_left}
 use Rattle.sheet.proofs.Numbers.{booking}
 use Rattle.sheet.proofs.acts.timer.Goals as goal
-use Rattle.sheet.proofs.acts.timer.Goals.{After-add-added, After-pair-length}
-
--- the numbers that were read
-read : (c : After-pair-length) →
-    let l = c.args.held in
-    record { cni = c.pair-cni.result; pil = c.triple-pil.result; year = get_or l 5 0; tuner = get_or l 6 0; length = c.pair-length.result } ≡ booking_in (take 9 l)
-read c =
-    let c.p-WAS = c.before in
-    let l = c.args.held in
-    booking l c.pair-cni.result c.triple-pil.result c.pair-length.result (search rules) c.pair-cni.ensures c.triple-pil.ensures c.pair-length.ensures
-
--- what the desk answers to them
-answered : (c : After-add-added) →
-    let a = c.args in
-    let o = add_of (booking_in (take 9 a.t2)) a.desk in
-    (add_answer c.add-added.result.answer ≡ said_by o) × (c.add-added.result.desk ≡ left_by a.desk o)
-answered c = rw (← read c.before) c.add-added.ensures
 
 pub returns : goal.returns
 unfolding timer_told timer_left
 returns c =
-    let e = answered c.before in
+    let a = c.args in
+    let l = a.held in
+    -- the numbers that were read
+    let read : record { cni = c.pair-cni.result; pil = c.triple-pil.result; year = get_or l 5 0; tuner = get_or l 6 0; length = c.pair-length.result } ≡ booking_in (take 9 l) =
+    booking l c.pair-cni.result c.triple-pil.result c.pair-length.result (search rules) c.pair-cni.ensures c.triple-pil.ensures c.pair-length.ensures in
+    -- what the desk answers to them
+    let o = add_of (booking_in (take 9 l)) a.desk in
+    let e : (add_answer c.add-added.result.answer ≡ said_by o) × (c.add-added.result.desk ≡ left_by a.desk o) = rw (← read) c.add-added.ensures in
     rw (← e.0, ← e.1, c.timer_line-next.ensures.0) (refl, c.timer_line-next.ensures.1)

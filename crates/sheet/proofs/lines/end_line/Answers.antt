@@ -14,4 +14,4 @@ put-requires c =
 pub returns : goal.returns
 returns c =
     let a = c.args in
-    then a.out-1.now a.at (decimal a.n) (line_feed ∷ []) c.put_decimal-next.ensures c.put.ensures
+    then a.out.now a.at (decimal a.n) (line_feed ∷ []) c.put_decimal-next.ensures c.put.ensures

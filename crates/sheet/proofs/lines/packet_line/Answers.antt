@@ -19,6 +19,6 @@ pub returns : goal.returns
 returns c =
     let a = c.args in
     let end = decimal a.live ++ (line_feed ∷ []) in
-    let from-gap = then c.put_decimal-gap.new.0 c.put_decimal-gap.result (space ∷ []) end c.put-next.ensures c.end_line.ensures in
-    let from-number = then c.open_line-number.new.0 c.open_line-number.result (decimal a.answer) (space ∷ end) c.put_decimal-gap.ensures from-gap in
-    then a.out-1.now a.at (80 ∷ space ∷ []) (decimal a.answer ++ (space ∷ end)) c.open_line-number.ensures from-number
+    let from-gap = then c.put_decimal-gap.new.out c.put_decimal-gap.result (space ∷ []) end c.put-next.ensures c.end_line.ensures in
+    let from-number = then c.open_line-number.new.out c.open_line-number.result (decimal a.answer) (space ∷ end) c.put_decimal-gap.ensures from-gap in
+    then a.out.now a.at (80 ∷ space ∷ []) (decimal a.answer ++ (space ∷ end)) c.open_line-number.ensures from-number

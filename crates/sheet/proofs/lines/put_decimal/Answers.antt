@@ -12,4 +12,4 @@ pub returns : goal.returns
 returns c =
     let a = c.args in
     rw (from_ten _ c.if-n-lt10.false, ← c.digit-2.ensures, ← c.digit-3.ensures)
-    (then a.out-1.now a.at (c.digit-2.result ∷ []) (c.digit-3.result ∷ []) c.put-next.ensures c.put-2.ensures)
+    (then a.out.now a.at (c.digit-2.result ∷ []) (c.digit-3.result ∷ []) c.put-next.ensures c.put-2.ensures)
