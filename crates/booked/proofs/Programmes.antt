@@ -1,6 +1,6 @@
 -- Each programme of a page has a date that exists, an original time or 2500, times of a day, and a network of 16 bits.
 use Prim.Native.Nat.{ℕ}
-use mathlib.Core.List.{List, ◌∷◌}
+use mathlib.Core.List.{List, [], ◌∷◌}
 use Rattle.answer.specs.Answer.{given}
 use Rattle.announced.specs.declared.Announcement.{Announcement}
 use Rattle.originals.specs.declared.Original.{Original}
@@ -21,6 +21,8 @@ pub record Good (q : Programme) : Type 0 where
 paired_good : (xs : List Announcement) (os : List Original) (q : Programme) → GoodAnnounced xs → GoodOriginals os → Member q (programmes_by xs os) → Good q
 paired_good (a ∷ xs) (o ∷ os) q g h here = record { dated = h.0.0; original = h.0.1; network = h.0.2; start = g.0; finish = g.1 }
 paired_good (a ∷ xs) (o ∷ os) q g h (later w) = paired_good xs os q g.2 h.1 w
+paired_good [] os q g h w = elim w [ ]
+paired_good (a ∷ xs) [] q g h w = elim w [ ]
 
 reading_good : (page : List ℕ) (r : Reading) (q : Programme) → Reads page r → Member q (programmes_by r.announced r.originals) → Good q
 reading_good page r q w m =

@@ -31,6 +31,7 @@ fn minutes(t: Time) -> u16
 }
 
 // 'Past midnight counts on.'
+#[tactic(auto, unfolding(crate::specs::Timer::length_of))]
 fn length_of(start: Time, finish: Time) -> u16
     ensures { result ≡ length_of start finish }
 {
@@ -47,6 +48,7 @@ fn length_of(start: Time, finish: Time) -> u16
 }
 
 // 'PIL (date and original time)'.
+#[tactic(auto, unfolding(crate::specs::Timer::pil_of))]
 fn pil_of(q: Programme) -> u32
     ensures { result ≡ pil_of q }
 {
@@ -57,6 +59,7 @@ fn pil_of(q: Programme) -> u32
 }
 
 // '2500 gives no timer.'
+#[tactic(auto, unfolding(crate::specs::Timer::timer_of))]
 pub fn timer_of(q: Programme) -> Timer
     ensures { result ≡ timer_of q }
 {
