@@ -33,6 +33,7 @@ pub struct Asked {
 }
 
 impl Asked {
+    #[tactic(auto, unfolding(crate::specs::Asked::nothing))]
     pub fn new() -> Asked
         ensures { result ≡ nothing }
     {

@@ -14,6 +14,7 @@ use preview::{Programme, Reading};
 const MOST: usize = 24;
 
 // 'CNI 2, PIL 3, year 1', tuner and length.
+#[tactic(auto, unfolding(crate::specs::Section::entry_of))]
 fn entry(tuner: u8, b: Booked) -> [u8; 9]
     ensures { result ≡ entry_of tuner b }
 {
@@ -45,6 +46,7 @@ fn put(bytes: [u8; 217], at: usize, entry: [u8; 9]) -> [u8; 217]
 }
 
 // '2500 gives no timer.'
+#[tactic(auto, unfolding(crate::specs::Taken::after_timer))]
 fn after_timer(tuner: u8, had: Entries, timer: Timer) -> Entries
     requires { had.count < 24 }
     ensures { result ≡ after_timer tuner had timer }
@@ -79,6 +81,7 @@ fn entries_of(tuner: u8, programmes: [Programme; 24], count: usize) -> Entries
 }
 
 // 'Timers: a one-byte count', before them.
+#[tactic(auto, unfolding(crate::specs::Taken::counted))]
 fn counted(all: Entries) -> Section
     requires { all.count ≤ 24 }
     ensures { result ≡ counted all }

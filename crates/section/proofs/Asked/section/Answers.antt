@@ -10,6 +10,6 @@ pub returns : goal.returns
 returns c =
     let k = c.args.self in
     let r = c.read-reading.result in
-    let (a, w, e) = read_section k.tuner (held k.page-1) r c.read-reading.ensures in
-    let told : c.section_of.result ≡ section_read k.tuner (read_number r.verdict) r.page-1 = c.section_of.ensures in
+    let (a, w, e) = read_section k.tuner (held k.page) r c.read-reading.ensures in
+    let told : c.section_of.result ≡ section_read k.tuner (read_number r.verdict) r.page = c.section_of.ensures in
     (a, w, told ∙ e)

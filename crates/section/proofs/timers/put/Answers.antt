@@ -1,6 +1,5 @@
 -- `put`'s loop: the bytes passed are stored. The measure is how many are left.
 use borrow.Author.Rules.{rules}
-use Prim.Native.Nat.{◌-◌}
 use mathlib.Core.Path.{◌≡◌, refl, ◌∙◌}
 use native.Mathlib.Omega.{arith}
 use lib.ListN.{take}
@@ -15,7 +14,7 @@ pub loop-j-preserved : goal.loop-j-preserved
 loop-j-preserved c =
     let a = c.args in
     let inv = c.loop-j.invariant in
-    (search rules, inv.1, inv.2, kept_more a.t3 a.at c.loop-j.j a.bytes c.loop-j.all (omega arith) inv.3)
+    (search rules, inv.1, inv.2, kept_more a.entry a.at c.loop-j.j a.bytes c.loop-j.all (omega arith) inv.3)
 
 pub returns : goal.returns
 returns c =

@@ -18,9 +18,9 @@ returns-then-number-eq0 c =
     let a = c.args in
     let page = a.reading.page in
     let read : eqb c.number-number.result 0 ≡ true = eq-eqb _ _ c.if-number-eq0.true in
-    let all : counted c.entries_of.result ≡ counted (entered a.tuner (timers_of (take page.count page.programmes-1))) =
+    let all : counted c.entries_of.result ≡ counted (entered a.tuner (timers_of (take page.count page.programmes))) =
     rw c.entries_of.ensures.0 refl in
-    rw (← c.number-number.ensures, read) (c.counted.ensures ∙ all ∙ all_counted a.tuner (take page.count page.programmes-1))
+    rw (← c.number-number.ensures, read) (c.counted.ensures ∙ all ∙ all_counted a.tuner (take page.count page.programmes))
 
 pub returns : goal.returns
 unfolding section_read
