@@ -10,10 +10,10 @@ use Rattle.collected.proofs.Keeping.{length_more}
 use Rattle.guide.proofs.collect_piece.Goals as goal
 
 pub returns : goal.returns
-returns c =
+returns g c =
     let page = c.args.page in
-    let piece = take c.read-got.result.count c.read-got.new.0 in
+    let piece = take c.read-got.result.count c.read-got.new.piece in
     let got : length piece ≡ c.read-got.result.count = length-take-le _ _ (search rules) in
     let more : c.feed-next.result.length ≡ min (page.length + length piece) deciding =
-    ap (λ (r : Collected). r.length) c.feed-next.ensures.0 ∙ length_more piece page in
+    ap (λ (r : Collected). r.length) c.feed-next.ensures.value ∙ length_more piece page in
     rw (← got) more

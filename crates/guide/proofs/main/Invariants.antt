@@ -6,7 +6,7 @@ use Rattle.collected.specs.Collected.{deciding}
 use Rattle.guide.proofs.main.Given as goal
 
 abbrev pub invariant-loop-more : goal.invariant-loop-more
-invariant-loop-more l = l.seen ≡ true → l.more.length < deciding
+invariant-loop-more l = l.more ≡ true → l.page.length < deciding
 
 abbrev pub decreases-loop-more : goal.decreases-loop-more
-decreases-loop-more l = cond l.seen (deciding - l.more.length) 0
+decreases-loop-more l = cond l.more (deciding - l.page.length) 0

@@ -13,5 +13,5 @@ pub returns : goal.returns
 unfolding reported_by out_after end_told
 returns c =
     let (a, w, counted, stored) = c.report.ensures in
-    let e : leb longest (length c.args.out-1.now) ≡ true = le-leb _ _ c.requires in
+    let e : leb longest (length c.args.out.now) ≡ true = le-leb _ _ c.requires in
     rw (told (held c.args.page) a w) (rw e at counted, rw e at stored)
