@@ -6,7 +6,7 @@ use mathlib.Core.Path.{◌≡◌}
 use mathlib.Core.Bool.{Bool, true, ◌&&◌, and_assoc, and-true}
 use lib.Dec.{eqb}
 use lib.ListN.{length}
-use Rattle.codes.specs.Codes.{is_decimal, is_hexadecimal, point, hyphen}
+use Rattle.codes.specs.Codes.{is_decimal, point, hyphen}
 use Rattle.formats.specs.Formats.{at}
 use Rattle.formats.proofs.Facts.{eleven}
 use Rattle.formats.proofs.format.shown.Goals as goal
