@@ -1,4 +1,4 @@
--- `shown`: the signs of each kind's pattern.
+-- `shown`: the signs of the double time's pattern.
 use borrow.Author.Rules.{rules}
 use Prim.Native.Nat.{ℕ}
 use mathlib.Core.List.{List}
@@ -6,34 +6,16 @@ use mathlib.Core.Path.{◌≡◌}
 use mathlib.Core.Bool.{Bool, true, ◌&&◌, and_assoc, and-true}
 use lib.Dec.{eqb}
 use lib.ListN.{length}
-use Rattle.codes.specs.Codes.{is_decimal, is_hexadecimal, point, hyphen}
+use Rattle.codes.specs.Codes.{is_decimal, point, hyphen}
 use Rattle.formats.specs.Formats.{at}
 use Rattle.formats.proofs.Facts.{eleven}
 use Rattle.formats.proofs.format.shown.Goals as goal
 
--- figure number i is decimal, and hexadecimal
+-- figure number i is decimal
 abbrev z : List ℕ → ℕ → Bool
 z cs i = is_decimal (at cs i)
 
-abbrev h : List ℕ → ℕ → Bool
-h cs i = is_hexadecimal (at cs i)
-
--- the tests of so many signs, by pairs and one by one
-two : (a b : Bool) → (a && b) ≡ (a && (b && true))
-two a b = simp and-true
-
-three : (a b c : Bool) → (a && (b && c)) ≡ (a && (b && (c && true)))
-three a b c = simp and-true
-
-four : (a b c d : Bool) → ((a && b) && (c && d)) ≡ (a && (b && (c && (d && true))))
-four a b c d = simp (and_assoc, and-true)
-
-five : (a b c d e : Bool) → ((a && b) && (c && (d && e))) ≡ (a && (b && (c && (d && (e && true)))))
-five a b c d e = simp (and_assoc, and-true)
-
-six : (a b c d e f : Bool) → ((a && b) && ((c && d) && (e && f))) ≡ (a && (b && (c && (d && (e && (f && true))))))
-six a b c d e f = simp (and_assoc, and-true)
-
+-- the tests of the double time's signs, by pairs and one by one
 twice : (a b c d e f g h i j k : Bool)
     → (((a && b) && (c && (d && e))) && (f && ((g && h) && (i && (j && k)))))
     ≡ (a && (b && (c && (d && (e && (f && (g && (h && (i && (j && (k && true)))))))))))
