@@ -11,5 +11,5 @@ use Rattle.aerial.proofs.reported.Goals as goal
 pub returns : goal.returns
 unfolding reported_by out_after
 returns c =
-    let e : leb longest (length c.args.out-1.now) ≡ true = le-leb _ _ c.requires in
+    let e : leb longest (length c.args.out.now) ≡ true = le-leb _ _ c.requires in
     (rw e at c.report.ensures.0, rw e at c.report.ensures.1)
