@@ -5,4 +5,4 @@ use Rattle.play.proofs.closed.Goals as goal
 pub returns : goal.returns
 returns c =
     let a = c.args in
-    rw c.close.ensures.0 (closed a.ended a.out-1.now a.at a.sheet c.requires)
+    rw c.close.ensures.0 (closed a.ended a.out.now a.at a.sheet c.requires)

@@ -5,4 +5,4 @@ use Rattle.play.proofs.taken.Goals as goal
 pub returns : goal.returns
 returns c =
     let a = c.args in
-    rw c.feed.ensures.0.0 (fed a.piece.now a.out-1.now a.at a.sheet c.requires)
+    rw c.feed.ensures.value.0 (fed a.piece.now a.out.now a.at a.sheet c.requires)
