@@ -22,10 +22,3 @@ below s v n p =
           let young : s - v < n = elim (dec_le v s) [ yes k ↦ omega arith | no k ↦ omega (arith, p (omega arith)) ] in
           lt-ltb s (v + n) (omega arith) ∙ sym (lt-ltb (s - v) n young)
     ]
-
-pub above : (s v n : ℕ) → ltb (v + n) s ≡ ltb n (s - v)
-above s v n =
-    elim (dec_le s (v + n)) [
-      | yes h ↦ le-ltb (v + n) s h ∙ sym (le-ltb n (s - v) (omega arith))
-      | no h ↦ lt-ltb (v + n) s (omega arith) ∙ sym (lt-ltb n (s - v) (omega arith))
-    ]
