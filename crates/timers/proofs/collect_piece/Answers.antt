@@ -5,6 +5,6 @@ use lib.Seq.{length-take-le}
 use Rattle.timers.proofs.collect_piece.Goals as goal
 
 pub returns : goal.returns
-returns c =
-    let piece = take c.read-got.result.count c.read-got.new.0 in
-    (piece, length-take-le _ _ (search rules), c.feed-next.ensures.0)
+returns g c =
+    let piece = take c.read-got.result.count c.read-got.new.piece in
+    (piece, length-take-le _ _ (search rules), c.feed-next.ensures.value)
