@@ -10,6 +10,7 @@ use std::io::{Read, Write};
 use tally::Tally;
 
 // A report that finds room is stored whole.
+#[tactic(auto, unfolding(tally::specs::Pieces::reported_by, tally::specs::Pieces::out_after))]
 fn reported(tally: Tally, ended: bool, out: &mut [u8]) -> usize
     requires { longest ≤ length out.old }
     ensures { (result ≡ length (end_told ended tally)) × (out.new ≡ sets out.old 0 (end_told ended tally)) }
@@ -33,16 +34,16 @@ fn count_piece<R: Read, E: Write>(from: &mut R, told: &mut E, tally: Tally) -> T
         &mut piece,
         b"aerial: the input could not be read",
     );
-    let n = got.count;
-    let next = tally.feed(&piece[..n]);
     Turn {
-        got: n,
+        got: got.count,
         ended: got.ended,
-        tally: next,
+        tally: tally.feed(&piece[..got.count]),
     }
 }
 
-// Reads up to the input's end, and no further than bytes decide something.
+// Reads up to the input's end, and no further than bytes decide something. By no `streams::collect`: what came before a read that fails is
+// reported too.
+#[tactic(auto, using(items::proofs::Taking::deciding_less))]
 fn main(rt: HostRuntime) {
     let mut from = rt.stdin();
     let mut to = rt.stdout();
@@ -52,8 +53,7 @@ fn main(rt: HostRuntime) {
     let mut ended = false;
     while left > 0 {
         let t = count_piece(&mut from, &mut told, tally);
-        let next = t.tally;
-        tally = next;
+        tally = t.tally;
         ended = t.ended;
         left = items::still_deciding(left, t.got, tally.left_over());
     }

@@ -28,15 +28,13 @@ const STOPPED: u16 = 35;
 const UNSTOPPED: u16 = 20;
 
 pub(crate) fn length_of(sequence: u8, event: u32) -> u16 {
-    if (sequence == 11) & (event == 1_02_1600) {
+    if sequence == 11 && event == 1_02_1600 {
         return STOPPED;
     }
     UNSTOPPED
 }
 
-pub(crate) const SEQUENCE_COUNT: usize = 13;
-
-pub(crate) const SEQUENCES: [Sequence; SEQUENCE_COUNT] = [
+pub(crate) const SEQUENCES: [Sequence; 13] = [
     Sequence {
         number: 1,
         month: JULY,

@@ -2,7 +2,7 @@
 use crate::events::{RECORDER, Sequence};
 use crate::rows::OFF;
 use desk::Desk;
-use reply::{AskAnswer, State};
+use reply::{NoTimer, State};
 use std::io::Write;
 
 // What cannot be written is left out.
@@ -10,31 +10,18 @@ fn text<W: Write>(to: &mut W, s: &[u8]) {
     let _ = to.write_all(s);
 }
 
-fn digit(n: u32) -> u8 {
-    b'0' + (n % 10) as u8
-}
-
-fn two<W: Write>(to: &mut W, n: u32) {
-    let digits = [digit(n / 10), digit(n)];
-    text(to, &digits);
-}
-
 fn hour_and_minute<W: Write>(to: &mut W, n: u32) {
-    two(to, n / 100);
-    text(to, b":");
-    two(to, n);
+    let _ = write!(to, "{:02}:{:02}", n / 100 % 100, n % 100);
 }
 
 fn time<W: Write>(to: &mut W, at: u32) {
     hour_and_minute(to, at / 100);
-    text(to, b":");
-    two(to, at);
+    let _ = write!(to, ":{:02}", at % 100);
 }
 
 // A place as tuner/LCI.
 fn place<W: Write>(to: &mut W, p: u8) {
-    let digits = [b'0' + p / 4 % 4, b'/', b'0' + p % 4];
-    text(to, &digits);
+    let _ = write!(to, "{}/{}", p / 4 % 4, p % 4);
 }
 
 fn state<W: Write>(to: &mut W, s: State) {
@@ -54,10 +41,10 @@ fn state<W: Write>(to: &mut W, s: State) {
     }
 }
 
-fn answer<W: Write>(to: &mut W, a: AskAnswer) {
+fn answer<W: Write>(to: &mut W, a: Result<State, NoTimer>) {
     match a {
-        AskAnswer::NoTimer => text(to, b"no timer"),
-        AskAnswer::Says(s) => state(to, s),
+        Ok(s) => state(to, s),
+        Err(NoTimer) => text(to, b"no timer"),
     }
 }
 
@@ -65,26 +52,17 @@ fn event<W: Write>(to: &mut W, desk: Desk, slot: usize, e: u32) {
     if e == OFF {
         return;
     }
-    text(to, b" | VCR");
-    let recorder = [digit(e / RECORDER)];
-    text(to, &recorder);
-    text(to, b" ");
+    let _ = write!(to, " | VCR{} ", e / RECORDER % 10);
     hour_and_minute(to, e);
     text(to, b" ");
-    let a = desk.ask(slot);
-    answer(to, a);
+    answer(to, desk.ask(slot));
 }
 
 pub(crate) fn print<W: Write>(to: &mut W, desk: Desk, s: Sequence, at: u32) {
-    let events = s.events;
-    let number = s.number;
-    let _ = write!(to, "{number}");
-    text(to, b" ");
+    let _ = write!(to, "{} ", s.number);
     time(to, at);
-    event(to, desk, 0, events[0]);
-    event(to, desk, 1, events[1]);
-    event(to, desk, 2, events[2]);
-    event(to, desk, 3, events[3]);
-    event(to, desk, 4, events[4]);
+    for (slot, e) in s.events.iter().enumerate() {
+        event(to, desk, slot, *e);
+    }
     text(to, b"\n");
 }

@@ -8,14 +8,11 @@ mod numbers; // from the tables' numbers to seconds and labels
 mod play; // labels into packets, packets into the desk
 mod rows; // what each label channel carries, from the annex's tables
 
-use events::{SEQUENCE_COUNT, SEQUENCES};
+use events::SEQUENCES;
 
 fn main(rt: HostRuntime) {
     let mut to = rt.stdout();
-    let mut i: usize = 0;
-    while i < SEQUENCE_COUNT {
-        let s = SEQUENCES[i];
+    for s in SEQUENCES {
         play::play(&mut to, s);
-        i += 1;
     }
 }

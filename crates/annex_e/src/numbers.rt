@@ -46,17 +46,16 @@ pub(crate) fn pil_of(month: u8, announced: u32) -> u32 {
 
 // Sound, spare bit and programme type decide nothing in the desk, and are sent as 0.
 pub(crate) fn label_of(month: u8, cni: u16, lci: u8, sent: u32) -> Label {
-    let pil = pil_of(month, sent);
     Label {
         designation: 2,
-        lci: lci,
+        lci,
         luf: (sent / LUF % 2) as u8,
         prf: (sent / PRF % 2) as u8,
         pcs: 0,
         mi: (sent / MI % 2) as u8,
         spare: 0,
-        cni: cni,
-        pil: pil,
+        cni,
+        pil: pil_of(month, sent),
         pty: 0,
     }
 }

@@ -2,7 +2,7 @@
 use crate::events::{Sequence, length_of};
 use crate::line;
 use crate::numbers::{YEAR, label_of, pil_of, second_of};
-use crate::rows::{DAY, NEVER, OFF, ROW_LIMIT, Row, row_of};
+use crate::rows::{DAY, OFF, Row, rows_of};
 use desk::Desk;
 use label::Label;
 use std::io::Write;
@@ -12,38 +12,31 @@ const TUNER: u8 = 0;
 
 fn packet_of(l: Label) -> [u8; 42] {
     let mut bytes = [0u8; 42];
-    writer::write(l, &mut bytes);
+    let _ = writer::write(l, &mut bytes);
     bytes
-}
-
-fn hear(desk: Desk, time: u32, bytes: [u8; 42]) -> Desk {
-    let heard = desk.packet(TUNER, time, &bytes);
-    heard.desk
 }
 
 fn send(desk: Desk, s: Sequence, time: u32, lci: u8, sent: u32) -> Desk {
     if sent == OFF {
         return desk;
     }
-    let l = label_of(s.month, s.cni, lci, sent);
-    let bytes = packet_of(l);
-    hear(desk, time, bytes)
+    let bytes = packet_of(label_of(s.month, s.cni, lci, sent));
+    desk.packet(TUNER, time, &bytes).desk
 }
 
 fn send_all(desk: Desk, s: Sequence, time: u32, sent: [u32; 4]) -> Desk {
-    let a = send(desk, s, time, 0, sent[0]);
-    let b = send(a, s, time, 1, sent[1]);
-    let c = send(b, s, time, 2, sent[2]);
-    send(c, s, time, 3, sent[3])
+    let mut d = desk;
+    for lci in 0..4 {
+        d = send(d, s, time, lci, sent[lci as usize]);
+    }
+    d
 }
 
 // Once in each second up to `until`, which is not among them.
 fn repeat(desk: Desk, s: Sequence, from: u32, until: u32, sent: [u32; 4]) -> Desk {
     let mut d = desk;
-    let mut time = from;
-    while time < until {
+    for time in from..until {
         d = send_all(d, s, time, sent);
-        time += 1;
     }
     d
 }
@@ -54,55 +47,42 @@ fn book(desk: Desk, s: Sequence, event: u32) -> Desk {
     }
     let pil = pil_of(s.month, event);
     let length = length_of(s.number, event);
-    let added = desk.add(s.cni, pil, YEAR, TUNER, length);
-    added.desk
+    desk.add(s.cni, pil, YEAR, TUNER, length).desk
 }
 
 fn booked(s: Sequence) -> Desk {
-    let events = s.events;
-    let fresh = Desk::new();
-    let a = book(fresh, s, events[0]);
-    let b = book(a, s, events[1]);
-    let c = book(b, s, events[2]);
-    let d = book(c, s, events[3]);
-    book(d, s, events[4])
+    let mut d = Desk::new();
+    for event in s.events {
+        d = book(d, s, event);
+    }
+    d
 }
 
-// A row's labels go on to the next row; where that is another day's, for a minute, so that no night is played.
-fn end_of(month: u8, at: u32, next: u32) -> u32 {
+// A row's labels go on to the next row, where there is one; where that is another day's, for a minute, so that no night is played.
+fn end_of(month: u8, at: u32, next: Option<&Row>) -> u32 {
     let from = second_of(month, at);
-    if next == NEVER {
+    let Some(row) = next else {
         return from;
-    }
-    let until = second_of(month, next);
-    if (at / DAY != next / DAY) & (from + 60 < until) {
+    };
+    let until = second_of(month, row.0);
+    if at / DAY != row.0 / DAY && from + 60 < until {
         return from + 60;
     }
     until
 }
 
-fn play_row<W: Write>(to: &mut W, desk: Desk, s: Sequence, row: Row, next: u32) -> Desk {
-    let at = row.0;
-    let sent = row.1;
+fn play_row<W: Write>(to: &mut W, desk: Desk, s: Sequence, row: &Row, next: Option<&Row>) -> Desk {
+    let Row(at, sent) = *row;
     let from = second_of(s.month, at);
-    let until = end_of(s.month, at, next);
-    let heard = send_all(desk, s, from, sent);
-    let waited = heard.wait(from);
-    let d = waited.desk;
+    let d = send_all(desk, s, from, sent).wait(from).desk;
     line::print(to, d, s, at);
-    repeat(d, s, from + 1, until, sent)
+    repeat(d, s, from + 1, end_of(s.month, at, next), sent)
 }
 
 pub(crate) fn play<W: Write>(to: &mut W, s: Sequence) {
     let mut d = booked(s);
-    let mut i: usize = 0;
-    while i < ROW_LIMIT {
-        let row = row_of(s.number, i);
-        if row.0 == NEVER {
-            return;
-        }
-        i += 1;
-        let next = row_of(s.number, i);
-        d = play_row(to, d, s, row, next.0);
+    let rows = rows_of(s.number);
+    for (i, row) in rows.iter().enumerate() {
+        d = play_row(to, d, s, row, rows.get(i + 1));
     }
 }

@@ -23,7 +23,7 @@ pub(crate) const LUF: u32 = 4_000_000;
 // Of a programme that is about to start, where MI is 1.
 const CUE: u32 = MI + PRF;
 
-// Nothing sent.
+// Nothing sent. A number, and no `None`: the tables are written as the annex writes them.
 pub(crate) const OFF: u32 = 0;
 
 // Service codes and no-specific-value: their day, hour and minute. No day has these hours; month 15 goes with them.
@@ -32,14 +32,6 @@ const RIT: u32 = 30_63;
 const INT: u32 = 29_63;
 
 const NSPV: u32 = 31_31_63;
-
-// Past a table's end, where there is no time.
-pub(crate) const NEVER: u32 = 0;
-
-const END: Row = Row(NEVER, [OFF; 4]);
-
-// More than any table has.
-pub(crate) const ROW_LIMIT: usize = 20;
 
 const TABLE_E2: [Row; 11] = [
     Row(1_191410, [1_1840, OFF, OFF, OFF]),
@@ -55,13 +47,6 @@ const TABLE_E2: [Row; 11] = [
     Row(1_194400, [1_1945, OFF, OFF, OFF]),
 ];
 
-fn row_e2(i: usize) -> Row {
-    if i < 11 {
-        return TABLE_E2[i];
-    }
-    END
-}
-
 const TABLE_E4: [Row; 11] = [
     Row(1_191410, [MI + 1_1840, OFF, OFF, OFF]),
     Row(1_191420, [MI + 1_1840, OFF, OFF, OFF]),
@@ -76,13 +61,6 @@ const TABLE_E4: [Row; 11] = [
     Row(1_194400, [MI + 1_1945, OFF, OFF, OFF]),
 ];
 
-fn row_e4(i: usize) -> Row {
-    if i < 11 {
-        return TABLE_E4[i];
-    }
-    END
-}
-
 const TABLE_E6: [Row; 8] = [
     Row(2_123456, [2_1200, OFF, OFF, OFF]),
     Row(2_123530, [PRF + 2_1235, OFF, OFF, OFF]),
@@ -93,13 +71,6 @@ const TABLE_E6: [Row; 8] = [
     Row(2_123720, [2_1235, OFF, OFF, OFF]),
     Row(2_123745, [2_1235, OFF, OFF, OFF]),
 ];
-
-fn row_e6(i: usize) -> Row {
-    if i < 8 {
-        return TABLE_E6[i];
-    }
-    END
-}
 
 const TABLE_E8: [Row; 9] = [
     Row(2_123456, [MI + 2_1200, OFF, OFF, OFF]),
@@ -112,13 +83,6 @@ const TABLE_E8: [Row; 9] = [
     Row(2_123720, [CUE + 2_1235, OFF, OFF, OFF]),
     Row(2_123745, [MI + 2_1235, OFF, OFF, OFF]),
 ];
-
-fn row_e8(i: usize) -> Row {
-    if i < 9 {
-        return TABLE_E8[i];
-    }
-    END
-}
 
 const TABLE_E10: [Row; 10] = [
     Row(2_123456, [2_1200, OFF, OFF, OFF]),
@@ -133,13 +97,6 @@ const TABLE_E10: [Row; 10] = [
     Row(2_123930, [OFF, 2_1235, OFF, OFF]),
 ];
 
-fn row_e10(i: usize) -> Row {
-    if i < 10 {
-        return TABLE_E10[i];
-    }
-    END
-}
-
 const TABLE_E12: [Row; 7] = [
     Row(2_123456, [MI + 2_1200, OFF, OFF, OFF]),
     Row(2_123530, [CUE + NSPV, OFF, OFF, OFF]),
@@ -150,13 +107,6 @@ const TABLE_E12: [Row; 7] = [
     Row(2_123745, [MI + 2_1235, OFF, OFF, OFF]),
 ];
 
-fn row_e12(i: usize) -> Row {
-    if i < 7 {
-        return TABLE_E12[i];
-    }
-    END
-}
-
 const TABLE_E14: [Row; 5] = [
     Row(2_140000, [2_1400, OFF, OFF, OFF]),
     Row(2_140404, [2_1400, OFF, OFF, OFF]),
@@ -164,13 +114,6 @@ const TABLE_E14: [Row; 5] = [
     Row(2_140650, [PRF + 2_1400, OFF, OFF, OFF]),
     Row(2_140700, [2_1400, OFF, OFF, OFF]),
 ];
-
-fn row_e14(i: usize) -> Row {
-    if i < 5 {
-        return TABLE_E14[i];
-    }
-    END
-}
 
 const TABLE_E18: [Row; 13] = [
     Row(2_210000, [MI + RIT, OFF, OFF, OFF]),
@@ -188,13 +131,6 @@ const TABLE_E18: [Row; 13] = [
     Row(3_225500, [MI + 3_2229, OFF, OFF, OFF]),
 ];
 
-fn row_e18(i: usize) -> Row {
-    if i < 13 {
-        return TABLE_E18[i];
-    }
-    END
-}
-
 const TABLE_E20: [Row; 8] = [
     Row(17_222905, [RIT, OFF, OFF, OFF]),
     Row(17_222935, [PRF + 17_2228, OFF, OFF, OFF]),
@@ -205,13 +141,6 @@ const TABLE_E20: [Row; 8] = [
     Row(18_000005, [OFF, MI + 17_2229, OFF, OFF]),
     Row(18_000020, [OFF, MI + 17_2229, OFF, OFF]),
 ];
-
-fn row_e20(i: usize) -> Row {
-    if i < 8 {
-        return TABLE_E20[i];
-    }
-    END
-}
 
 const TABLE_E22: [Row; 18] = [
     Row(2_160006, [MI + RIT, OFF, OFF, OFF]),
@@ -233,13 +162,6 @@ const TABLE_E22: [Row; 18] = [
     Row(5_150015, [OFF, MI + 5_1500, CUE + 5_1459, CUE + 5_0123]),
     Row(5_150025, [OFF, OFF, MI + 5_1459, MI + 5_0123]),
 ];
-
-fn row_e22(i: usize) -> Row {
-    if i < 18 {
-        return TABLE_E22[i];
-    }
-    END
-}
 
 const TABLE_E24: [Row; 19] = [
     Row(1_133000, [MI + 1_1330, OFF, OFF, OFF]),
@@ -263,13 +185,6 @@ const TABLE_E24: [Row; 19] = [
     Row(1_160510, [OFF, OFF, OFF, 1_1600]),
 ];
 
-fn row_e24(i: usize) -> Row {
-    if i < 19 {
-        return TABLE_E24[i];
-    }
-    END
-}
-
 const TABLE_E26: [Row; 14] = [
     Row(1_135900, [MI + 1_1330, OFF, OFF, OFF]),
     Row(1_135940, [MI + 1_1330, CUE + 1_1400, OFF, OFF]),
@@ -287,13 +202,6 @@ const TABLE_E26: [Row; 14] = [
     Row(1_160510, [MI + 1_1600, OFF, OFF, OFF]),
 ];
 
-fn row_e26(i: usize) -> Row {
-    if i < 14 {
-        return TABLE_E26[i];
-    }
-    END
-}
-
 // Without its last row, whose clock has gone back by an hour.
 const TABLE_E28: [Row; 5] = [
     Row(28_020116, [28_0159, OFF, OFF, OFF]),
@@ -303,28 +211,21 @@ const TABLE_E28: [Row; 5] = [
     Row(28_025945, [MI + 28_0200, OFF, OFF, OFF]),
 ];
 
-fn row_e28(i: usize) -> Row {
-    if i < 5 {
-        return TABLE_E28[i];
-    }
-    END
-}
-
-pub(crate) fn row_of(sequence: u8, i: usize) -> Row {
+pub(crate) fn rows_of(sequence: u8) -> &'static [Row] {
     match sequence {
-        1 => row_e2(i),
-        2 => row_e4(i),
-        3 => row_e6(i),
-        4 => row_e8(i),
-        5 => row_e10(i),
-        6 => row_e12(i),
-        7 => row_e14(i),
-        9 => row_e18(i),
-        10 => row_e20(i),
-        11 => row_e22(i),
-        12 => row_e24(i),
-        13 => row_e26(i),
-        14 => row_e28(i),
-        _ => END,
+        1 => &TABLE_E2,
+        2 => &TABLE_E4,
+        3 => &TABLE_E6,
+        4 => &TABLE_E8,
+        5 => &TABLE_E10,
+        6 => &TABLE_E12,
+        7 => &TABLE_E14,
+        9 => &TABLE_E18,
+        10 => &TABLE_E20,
+        11 => &TABLE_E22,
+        12 => &TABLE_E24,
+        13 => &TABLE_E26,
+        14 => &TABLE_E28,
+        _ => &[],
     }
 }

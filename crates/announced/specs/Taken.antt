@@ -1,11 +1,9 @@
 -- Times and titles taken one at a time. What they must read as is said in Times.antt; the laws say that this is the same.
-use Rattle.std.specs.Prelude.{ℕ, Bool, true, false, List, [], ◌∷◌, ◌++◌}
+use Rattle.std.specs.Prelude.{ℕ, Bool, true, false, Option, Some, None, List, [], ◌∷◌, ◌++◌}
 use Rattle.announced.specs.declared.Time.{Time}
 use Rattle.announced.specs.declared.Announcement.{Announcement}
 use Rattle.announced.specs.declared.Stage.{Stage}
 use Rattle.announced.specs.declared.Stage.TheVariants.{First, Single, Titled, Double, Ended, Wrong}
-use Rattle.announced.specs.declared.Told.{Told}
-use Rattle.announced.specs.declared.Told.TheVariants.{Nothing, Announced}
 use Rattle.announced.specs.Times.{Mark, S, D, T, announced}
 
 -- ── the stage after a time or a title ──────────────────────────────────────────────────────────────────────────────
@@ -82,6 +80,6 @@ announced_from s (m ∷ ms) = announced_by s m ++ announced_from (stage_after s 
 
 -- ── as it is told ──────────────────────────────────────────────────────────────────────────────────────────────────
 -- one announcement or none
-abbrev pub told_of : List Announcement → Told
-told_of [] = Nothing
-told_of (x ∷ xs) = Announced x
+abbrev pub told_of : List Announcement → Option Announcement
+told_of [] = None
+told_of (x ∷ xs) = Some x

@@ -35,24 +35,14 @@ pub enum Stage {
     Wrong,
 }
 
-// A programme that is complete with a time or a title, or none.
-#[derive(Clone, Copy)]
-pub enum Told {
-    Nothing,
-    Announced(Announcement),
-}
-
 // 'In each case .. the fixed sequence': a second time without a title between is what no page may have.
 fn after_single(s: Stage, t: Time) -> Stage
     ensures { result ≡ after_single s t }
 {
     match s {
-        Stage::First => Stage::Single(t, false),
-        Stage::Single(_, _) => Stage::Wrong,
+        Stage::First | Stage::Ended => Stage::Single(t, false),
         Stage::Titled(_, _, _) => Stage::Single(t, true),
-        Stage::Double(_, _) => Stage::Wrong,
-        Stage::Ended => Stage::Single(t, false),
-        Stage::Wrong => Stage::Wrong,
+        _ => Stage::Wrong,
     }
 }
 
@@ -60,31 +50,23 @@ fn after_double(s: Stage, t: Time, u: Time) -> Stage
     ensures { result ≡ after_double s t u }
 {
     match s {
-        Stage::First => Stage::Double(t, u),
-        Stage::Single(_, _) => Stage::Wrong,
-        Stage::Titled(_, _, _) => Stage::Double(t, u),
-        Stage::Double(_, _) => Stage::Wrong,
-        Stage::Ended => Stage::Double(t, u),
-        Stage::Wrong => Stage::Wrong,
+        Stage::First | Stage::Titled(_, _, _) | Stage::Ended => Stage::Double(t, u),
+        _ => Stage::Wrong,
     }
 }
 
 // 'The finishing time of an item .. results only from the starting time of the following item', or from a last time.
-fn by_time(s: Stage, t: Time) -> Told
+fn by_time(s: Stage, t: Time) -> Option<Announcement>
     ensures { result ≡ told_of (by_time s t) }
 {
     match s {
-        Stage::First => Told::Nothing,
-        Stage::Single(_, _) => Told::Nothing,
-        Stage::Titled(start, row, column) => Told::Announced(Announcement {
+        Stage::Titled(start, row, column) => Some(Announcement {
             row,
             column,
             start,
             finish: t,
         }),
-        Stage::Double(_, _) => Told::Nothing,
-        Stage::Ended => Told::Nothing,
-        Stage::Wrong => Told::Nothing,
+        _ => None,
     }
 }
 
@@ -95,39 +77,27 @@ impl Stage {
         ensures { result ≡ stage_from self (marks_of v) }
     {
         match v {
-            Value::Text => self,
-            Value::Wrong => self,
             Value::Single(hour, minute) => after_single(self, Time { hour, minute }),
             Value::Double(hour, minute, h, m) => {
                 let start = Time { hour, minute };
                 let finish = Time { hour: h, minute: m };
                 after_double(self, start, finish)
             }
-            Value::Original(_, _) => self,
-            Value::Date(_, _, _) => self,
-            Value::Network(_) => self,
-            Value::Offset(_) => self,
-            Value::Pty(_) => self,
-            Value::Word(_) => self,
+            _ => self,
         }
     }
 
-    // What a format announces.
+    // What a format announces: a programme that is complete with its time.
     #[tactic(auto, unfolding(crate::specs::Taken::announced_from))]
-    pub fn told(self, v: Value) -> Told
+    pub fn told(self, v: Value) -> Option<Announcement>
         ensures { result ≡ told_of (announced_from self (marks_of v)) }
     {
         match v {
-            Value::Text => Told::Nothing,
-            Value::Wrong => Told::Nothing,
-            Value::Single(hour, minute) => by_time(self, Time { hour, minute }),
-            Value::Double(hour, minute, _, _) => by_time(self, Time { hour, minute }),
-            Value::Original(_, _) => Told::Nothing,
-            Value::Date(_, _, _) => Told::Nothing,
-            Value::Network(_) => Told::Nothing,
-            Value::Offset(_) => Told::Nothing,
-            Value::Pty(_) => Told::Nothing,
-            Value::Word(_) => Told::Nothing,
+            Value::Single(hour, minute) | Value::Double(hour, minute, _, _) => by_time(
+                self,
+                Time { hour, minute },
+            ),
+            _ => None,
         }
     }
 
@@ -138,29 +108,23 @@ impl Stage {
         match self {
             Stage::First => Stage::Wrong,
             Stage::Single(start, _) => Stage::Titled(start, row, column),
-            Stage::Titled(_, _, _) => self,
             Stage::Double(_, _) => Stage::Ended,
-            Stage::Ended => Stage::Ended,
-            Stage::Wrong => Stage::Wrong,
+            _ => self,
         }
     }
 
     // What a title announces: the programme of a double time.
-    pub fn entitled(self, row: u8, column: u8) -> Told
+    pub fn entitled(self, row: u8, column: u8) -> Option<Announcement>
         ensures { result ≡ told_of (by_title self row column) }
     {
         match self {
-            Stage::First => Told::Nothing,
-            Stage::Single(_, _) => Told::Nothing,
-            Stage::Titled(_, _, _) => Told::Nothing,
-            Stage::Double(start, finish) => Told::Announced(Announcement {
+            Stage::Double(start, finish) => Some(Announcement {
                 row,
                 column,
                 start,
                 finish,
             }),
-            Stage::Ended => Told::Nothing,
-            Stage::Wrong => Told::Nothing,
+            _ => None,
         }
     }
 
@@ -168,14 +132,7 @@ impl Stage {
     pub fn ends(self) -> bool
         ensures { result ≡ may_end self }
     {
-        match self {
-            Stage::First => false,
-            Stage::Single(_, finish) => finish,
-            Stage::Titled(_, _, _) => false,
-            Stage::Double(_, _) => false,
-            Stage::Ended => true,
-            Stage::Wrong => false,
-        }
+        matches!(self, Stage::Single(_, true) | Stage::Ended)
     }
 }
 

@@ -1,10 +1,10 @@
 -- Words about the elements of a list.
-use Rattle.std.specs.Prelude.{ℕ, ◌+◌, Bool, false, cond, ◌||◌, List, [], ◌∷◌, ◌++◌, eqb, take, replicate}
+use Rattle.std.specs.Prelude.{ℕ, ◌+◌, Bool, cond, List, [], ◌∷◌, ◌++◌, ◌||◌, false, eqb, take, replicate}
+use Rattle.std.specs.List.{list_any}
 
 -- some element passes the test
 abbrev pub some : {A : Type 0} → (A → Bool) → List A → Bool
-some f [] = false
-some f (x ∷ xs) = f x || some f xs
+some f xs = list_any f xs
 
 -- a number is listed
 abbrev pub member : ℕ → List ℕ → Bool

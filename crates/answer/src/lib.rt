@@ -1,7 +1,8 @@
-// The words that every layer uses: what a call answers, in specs/, numbers out of bytes, digits, and the lesser of two numbers.
+// The words that every layer uses: what a call answers, in specs/, numbers out of bytes, digits, the lesser of two numbers, and one element
+// of an array.
 #![tactic(auto)]
 
-ghost use Rattle.std.specs.Prelude.{min, true, [], ◌∷◌, ◌≡◌};
+ghost use Rattle.std.specs.Prelude.{min, true, [], ◌∷◌, ◌≡◌, get_or, set};
 ghost use Rattle.answer.specs.Bytes.{number_of};
 ghost use Rattle.answer.specs.Laws.{Laws};
 ghost use Rattle.answer.specs.Text.{digit};
@@ -35,10 +36,28 @@ pub fn digit(n: usize) -> u8
 pub fn least(m: usize, n: usize) -> usize
     ensures { result ≡ min m n }
 {
-    if m < n {
-        return m;
+    m.min(n)
+}
+
+// An array with one element put; past the last place nothing is.
+pub fn put<T: Copy, const N: usize>(all: [T; N], at: usize, x: T) -> [T; N]
+    ensures { result ≡ set all at x }
+{
+    let mut out = all;
+    if at < N {
+        out[at] = x;
     }
-    n
+    out
+}
+
+// The element at a place; past the last place it is the other.
+pub fn at_or<T: Copy, const N: usize>(all: [T; N], at: usize, other: T) -> T
+    ensures { result ≡ get_or all at other }
+{
+    if at < N {
+        return all[at];
+    }
+    other
 }
 
 // The laws of these words, as a promise of the crate.

@@ -16,7 +16,7 @@ use Rattle.announced.specs.declared.Time.{Time}
 use Rattle.preview.specs.declared.Programme.{Programme}
 use Rattle.preview.specs.Page.{Answers}
 use Rattle.booked.specs.declared.Booked.{Booked}
-use Rattle.booked.specs.declared.Timer.TheVariants.{NotRecorded, Timed}
+use Rattle.std.proofs.Common.{None, Some}
 use Rattle.booked.specs.Timer.{minutes_of, length_of, pil_of, booked_by, timer_of}
 use Rattle.booked.specs.Laws.{Member}
 use Rattle.booked.proofs.Data.{Timely}
@@ -27,11 +27,11 @@ use Rattle.booked.proofs.Real.{Exists, date_exists, Parts, pil_parts, time_parts
 abbrev Recorded : Programme → Type 0
 Recorded q = is_not_recorded q.original.hour q.original.minute ≡ false
 
-timed : (q : Programme) (b : Booked) → timer_of q ≡ Timed b → Recorded q × (b ≡ booked_by q)
+timed : (q : Programme) (b : Booked) → timer_of q ≡ Some b → Recorded q × (b ≡ booked_by q)
 unfolding timer_of
 timed q b e = go (is_not_recorded q.original.hour q.original.minute) e
   where
-    go : (t : Bool) → cond t NotRecorded (Timed (booked_by q)) ≡ Timed b → (t ≡ false) × (b ≡ booked_by q)
+    go : (t : Bool) → cond t None (Some (booked_by q)) ≡ Some b → (t ≡ false) × (b ≡ booked_by q)
     go true f = absurd (let z : ◌≡◌ {A = ℕ} 0 1 = cc in omega arith)
     go false f = (refl, cc)
 
@@ -69,7 +69,7 @@ length_short start finish s f =
     (λ e. let h = leb-false (minutes_of start) (minutes_of finish) e in rw e (omega (arith, a, z, h)))
 
 -- ── of a page ──────────────────────────────────────────────────────────────────────────────────────────────────────
-module _ (page : List ℕ) (qs : List Programme) (q : Programme) (b : Booked) (w : Answers page (given qs)) (m : Member q qs) (e : timer_of q ≡ Timed b) where
+module _ (page : List ℕ) (qs : List Programme) (q : Programme) (b : Booked) (w : Answers page (given qs)) (m : Member q qs) (e : timer_of q ≡ Some b) where
   good : Good q
   good = programme_good page qs q w m
 

@@ -1,4 +1,5 @@
 -- The data of a page whose figures are permitted: its dates exist, its original times are times or 2500, and its networks have 16 bits.
+use Rattle.std.specs.Prelude.{is_some, unwrap_or}
 use Prim.Native.Nat.{ℕ, ◌≤◌, ◌<◌}
 use mathlib.Core.Path.{◌≡◌, refl}
 use mathlib.Core.Bool.{Bool, true, false, ◌||◌}
@@ -11,9 +12,10 @@ use Rattle.formats.specs.declared.Kind.TheVariants as kind
 use Rattle.figures.specs.declared.Offset.{Offset}
 use Rattle.figures.specs.Permitted.{two, three, two_hexadecimal, network_of, is_time, is_not_recorded, is_date, permitted, meant, value_of}
 use Rattle.rows.specs.Row.{Content, format, title}
+use Rattle.originals.specs.declared.Date.{Date}
 use Rattle.originals.specs.declared.InForce.{InForce}
 use Rattle.originals.specs.declared.Original.{Original}
-use Rattle.originals.specs.Data.{Datum, N, A, O, Y, Two, data_of, data_in, nothing, with_network, with_date, with_offset, with_type, original_by, is_complete, Gives, network, date, offset, type, last, next}
+use Rattle.originals.specs.Data.{Datum, N, A, O, Y, Two, data_of, data_in, nothing, date_by, with_network, with_date, with_offset, with_type, original_by, is_complete, Gives, network, date, offset, type, last, next}
 use Rattle.preview.specs.Page.{all_permitted}
 use Rattle.booked.proofs.Standing.{Small}
 
@@ -81,8 +83,11 @@ GoodOriginals [] = Unit {0}
 GoodOriginals (o ∷ os) = Good o × GoodOriginals os
 
 -- a date in force exists, and a network has 16 bits
+abbrev Exists : Date → Type 0
+Exists a = Dated a.day a.month a.year
+
 abbrev Sound : InForce → Type 0
-Sound f = (f.dated ≡ true → Dated f.day f.month f.year) × Narrow f.network
+Sound f = (is_some f.date ≡ true → Exists (unwrap_or f.date (date_by 0 0 0))) × Narrow (unwrap_or f.network 0)
 
 with_network_lem : (n : ℕ) (f : InForce) → Narrow n → Sound f → Sound (with_network n f)
 unfolding with_network
@@ -102,7 +107,7 @@ with_type_lem n f s = s
 
 timed : (f : InForce) (h m : ℕ) → Sound f → is_complete f ≡ true → Timely h m → Good (original_by f h m)
 unfolding original_by
-timed f h m s e t = (s.0 (both_true f.networked f.dated e).1, t, s.1)
+timed f h m s e t = (s.0 (both_true (is_some f.network) (is_some f.date) e).1, t, s.1)
 
 nothing_sound : Sound nothing
 nothing_sound = (λ e. absurd (let z : ◌≡◌ {A = ℕ} 0 1 = cc in omega arith), omega arith)

@@ -1,11 +1,9 @@
 -- From a programme of a preview page to a timer (document 02, #108).
-use Rattle.std.specs.Prelude.{ℕ, ◌+◌, ◌-◌, ◌*◌, ◌^◌, cond, leb}
+use Rattle.std.specs.Prelude.{ℕ, ◌+◌, ◌-◌, ◌*◌, ◌^◌, cond, leb, Option, None, Some}
 use Rattle.figures.specs.Permitted.{is_not_recorded}
 use Rattle.announced.specs.declared.Time.{Time}
 use Rattle.preview.specs.declared.Programme.{Programme}
 use Rattle.booked.specs.declared.Booked.{Booked}
-use Rattle.booked.specs.declared.Timer.{Timer}
-use Rattle.booked.specs.declared.Timer.TheVariants.{NotRecorded, Timed}
 
 -- since the day's start
 abbrev pub minutes_of : Time → ℕ
@@ -25,5 +23,5 @@ abbrev pub booked_by : Programme → Booked
 booked_by q = record { pil = pil_of q; cni = q.network; length = length_of q.start q.finish; year = q.year }
 
 -- '2500 gives no timer, told by its own answer'
-unfoldable pub timer_of : Programme → Timer
-timer_of q = cond (is_not_recorded q.original.hour q.original.minute) NotRecorded (Timed (booked_by q))
+unfoldable pub timer_of : Programme → Option Booked
+timer_of q = cond (is_not_recorded q.original.hour q.original.minute) None (Some (booked_by q))

@@ -17,13 +17,6 @@ pub struct Booked {
     pub year: u8,
 }
 
-// An item not worth recording has no timer.
-#[derive(Clone, Copy)]
-pub enum Timer {
-    NotRecorded,
-    Timed(Booked),
-}
-
 fn minutes(t: Time) -> u16
     ensures { result ≡ minutes_of t }
 {
@@ -38,13 +31,10 @@ fn length_of(start: Time, finish: Time) -> u16
     let from = minutes(start);
     let to = minutes(finish);
     if from <= to {
-        return to - from;
+        to - from
+    } else {
+        (to + 1440).saturating_sub(from)
     }
-    let next = to + 1440;
-    if from <= next {
-        return next - from;
-    }
-    0
 }
 
 // 'PIL (date and original time)'.
@@ -58,19 +48,18 @@ fn pil_of(q: Programme) -> u32
     date * 2048 + time
 }
 
-// '2500 gives no timer.'
+// '2500 gives no timer': an item not worth recording.
 #[tactic(auto, unfolding(crate::specs::Timer::timer_of))]
-pub fn timer_of(q: Programme) -> Timer
+pub fn timer_of(q: Programme) -> Option<Booked>
     ensures { result ≡ timer_of q }
 {
-    if (q.original.hour == 25) & (q.original.minute == 0) {
-        return Timer::NotRecorded;
+    if q.original.hour == 25 && q.original.minute == 0 {
+        return None;
     }
-    let length = length_of(q.start, q.finish);
-    Timer::Timed(Booked {
+    Some(Booked {
         pil: pil_of(q),
         cni: q.network,
-        length,
+        length: length_of(q.start, q.finish),
         year: q.year,
     })
 }

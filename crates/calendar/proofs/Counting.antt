@@ -6,7 +6,7 @@ use mathlib.Core.Path.{◌≡◌, refl}
 use native.Mathlib.Decide.{dec_lt}
 use native.Mathlib.Numerals.{add-one}
 use native.Mathlib.Omega.{arith}
-use borrow.Author.Tests.{ne_eqb, eqb-true, eqb-false, leb-true}
+use borrow.Author.Tests.{ne_eqb, eqb-true, eqb-false, leb-true, lt-ltb}
 use lib.Dec.{T, eqb, leb, ltb, eqb→eq, leb→le}
 use lib.ListN.{get_or, get_or-eq_default}
 use Rattle.answer.proofs.All.{both, both_left, both_right, below, each}
@@ -53,24 +53,19 @@ days_in_usual year (suc m) p q =
     let t = each (usual (leap year)) 12 (all_usual (leap year)) m (omega arith) in
     (leb→le 28 n (both_left (leb 28 n) (leb n 31) t), leb→le n 31 (both_right (leb 28 n) (leb n 31) t))
 
-pub days_in_le : (year month : ℕ) → month ≤ 12 → days_in year month ≤ 31
-unfolding days_in
-days_in_le year zero h = omega arith
-days_in_le year (suc m) h = omega (arith, days_in_usual year (suc m) (omega arith) h)
-
 -- the code's table
 abbrev sums : List ℕ
 sums = 0 ∷ 0 ∷ 31 ∷ 59 ∷ 90 ∷ 120 ∷ 151 ∷ 181 ∷ 212 ∷ 243 ∷ 273 ∷ 304 ∷ 334 ∷ []
 
 summed : Bool → ℕ → Bool
-summed t month = eqb (sum_below (days t) month) (get_or sums month 0 + leap_day (ltb 2 month && t))
+summed t month = eqb (sum_below (days t) month) (get_or sums month 365 + leap_day (ltb 2 month && t))
 
 all_summed : (t : Bool) → T (below (summed t) 13)
 unfolding summed days sum_below
 all_summed true = tt
 all_summed false = tt
 
-pub days_before_month_sums : (year month : ℕ) → month ≤ 12 → days_before_month year month ≡ get_or sums month 0 + leap_day (ltb 2 month && leap year)
+pub days_before_month_sums : (year month : ℕ) → month ≤ 12 → days_before_month year month ≡ get_or sums month 365 + leap_day (ltb 2 month && leap year)
 unfolding days_before_month days_in days summed
 days_before_month_sums year month h = eqb→eq _ _ (each (summed (leap year)) 13 (all_summed (leap year)) month (omega arith))
 
@@ -91,6 +86,13 @@ days_before_month_past year (suc m) h =
     elim (dec_lt 12 m) [
       | yes l ↦ omega (arith, days_in_none year m l, days_before_month_past year m l)
       | no l ↦ let e : m ≡ 12 = omega arith in rw e (days_of_year_leap year)
+    ]
+
+pub days_before_month_table : (year month : ℕ) → days_before_month year month ≡ get_or sums month 365 + leap_day (ltb 2 month && leap year)
+days_before_month_table year month =
+    elim (dec_lt 12 month) [
+      | yes l ↦ rw (get_or-eq_default sums 365 l, lt-ltb 2 month (omega arith)) (days_before_month_past year month l)
+      | no l ↦ days_before_month_sums year month (omega arith)
     ]
 
 -- two years differ in their leap day alone

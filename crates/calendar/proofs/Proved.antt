@@ -1,22 +1,20 @@
 -- The laws of the calendar.
-use mathlib.Core.Path.{◌≡◌, refl}
+use Rattle.std.proofs.Common.{◌≡◌, refl, Option, Some, None}
 use Rattle.answer.specs.Answer.{Answer, refused, given}
 use Rattle.answer.proofs.Answers.{numbered, equation}
 use Rattle.calendar.specs.Calendar.{announced_at, validity_answer, window_in}
 use Rattle.calendar.specs.Laws.{Laws}
 use Rattle.calendar.specs.declared.Window.{Window}
-use Rattle.calendar.specs.declared.Validity.{Validity}
-use Rattle.calendar.specs.declared.Validity.TheVariants.{Refused, Given}
 use Rattle.calendar.proofs.Counting.{first_day, next_day, next_month, next_year, closed_form}
 use Rattle.calendar.proofs.Windows.{within_clock, window_length, cut_at_start, announced_within, one_year, same_close, overlap}
 
-abbrev validity : Answer Window → Validity
-validity (refused n) = Refused
-validity (given window) = Given window
+abbrev validity : Answer Window → Option Window
+validity (refused n) = None
+validity (given window) = Some window
 
-validity_back : (r : Validity) → validity (validity_answer r) ≡ r
-validity_back Refused = refl
-validity_back (Given window) = refl
+validity_back : (r : Option Window) → validity (validity_answer r) ≡ r
+validity_back None = refl
+validity_back (Some window) = refl
 
 pub laws : Laws
 laws = record {

@@ -1,10 +1,8 @@
 -- The days of the clock, and the window of a PIL (document 01, 'PIL'; EN 300 231, clause 9.3). A year is counted from 2000.
-use Rattle.std.specs.Prelude.{ℕ, zero, suc, ◌+◌, ◌-◌, ◌*◌, ◌%◌, Bool, cond, not, ◌&&◌, ◌||◌, List, [], ◌∷◌, leb, ltb, eqb, get_or}
+use Rattle.std.specs.Prelude.{ℕ, zero, suc, ◌+◌, ◌-◌, ◌*◌, ◌%◌, Bool, cond, not, ◌&&◌, ◌||◌, List, [], ◌∷◌, leb, ltb, eqb, get_or, Option, Some, None}
 use Rattle.answer.specs.Answer.{Answer, refused, given, first_of}
 use Rattle.label.specs.Pil.{twenty_bits, day_of, month_of, hour_of, minute_of}
 use Rattle.calendar.specs.declared.Window.{Window}
-use Rattle.calendar.specs.declared.Validity.{Validity}
-use Rattle.calendar.specs.declared.Validity.TheVariants.{Refused, Given}
 
 -- 'every fourth is leap, 2000 included'
 unfoldable pub leap : ℕ → Bool
@@ -84,9 +82,9 @@ abbrev pub window_at : ℕ → ℕ → Window
 window_at pil year = record { opens = opens_at pil year; closes = closes_at pil year }
 
 -- the number of the answer, and its value
-abbrev pub validity_answer : Validity → Answer Window
-validity_answer Refused = refused 11
-validity_answer (Given window) = given window
+abbrev pub validity_answer : Option Window → Answer Window
+validity_answer None = refused 11
+validity_answer (Some window) = given window
 
 -- 11: 'year above 99, or PIL not real or wider than 20 bits'
 unfoldable pub window_in : ℕ → ℕ → Answer Window

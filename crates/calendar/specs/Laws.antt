@@ -1,9 +1,9 @@
 -- What is claimed of the calendar, over the definitions of Calendar alone. Proved in proofs/Proved.antt.
-use Rattle.std.specs.Prelude.{ℕ, ◌+◌, ◌*◌, ◌/◌, ◌≤◌, ◌<◌, true, cond, ◌≡◌, leb}
+use Rattle.std.specs.Prelude.{ℕ, ◌+◌, ◌*◌, ◌/◌, ◌≤◌, ◌<◌, true, cond, ◌≡◌, leb, Option}
 use Rattle.answer.specs.Answer.{Unique}
 use Rattle.label.specs.Pil.{day_of, month_of, hour_of}
 use Rattle.calendar.specs.Calendar.{days_in, real_in, days_before_year, day_number, date_of, hours, clock_end, opens_at, closes_at, announced_at, validity_answer, window_in}
-use Rattle.calendar.specs.declared.Validity.{Validity}
+use Rattle.calendar.specs.declared.Window.{Window}
 
 -- a second of the PIL's window in the year
 abbrev pub InWindow : ℕ → ℕ → ℕ → Type 0
@@ -38,6 +38,6 @@ pub record Laws : Type 0 where
       → (opens_at pil year ≤ opens_at next nextYear) × (closes_at pil year ≤ closes_at next nextYear)
       × (closes_at pil year ≡ opens_at next nextYear + cond (leb (hour_of next) 3) (hours 8) (hours 4))
   -- any two outcomes that the promise of `window_of` allows are equal, ..
-  pub window_unique : (pil year : ℕ) → Unique (λ (r : Validity). validity_answer r ≡ window_in pil year)
+  pub window_unique : (pil year : ℕ) → Unique (λ (r : Option Window). validity_answer r ≡ window_in pil year)
   -- .. and of `announced_of`
   pub announced_unique : (pil year : ℕ) → Unique (λ r. r ≡ announced_at pil year)

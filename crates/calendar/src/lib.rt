@@ -16,68 +16,63 @@ pub struct Window {
     pub closes: u32,
 }
 
-// The window of a PIL in a year, or refusal 11.
-#[derive(Clone, Copy)]
-pub enum Validity {
-    Refused,
-    Given(Window),
-}
-
 const MINUTE: u64 = 60;
 
 const HOUR: u64 = 3600;
 
 const DAY: u64 = 86400;
 
+#[tactic(auto, unfolding(crate::specs::Calendar::real_in))]
 fn real_in(pil: u32, year: u8) -> bool
     ensures { result ≡ real_in pil year }
 {
     let p = parts(pil);
-    let exists = days::day_exists(year, p.month, p.day);
-    exists & (p.hour <= 23) & (p.minute <= 59)
+    days::day_exists(year, p.month, p.day) & (p.hour <= 23) & (p.minute <= 59)
 }
 
 // In sixty-four bits, which hold any day's seconds, also those of a day past the clock's end.
+#[tactic(auto, unfolding(crate::specs::Calendar::opening))]
 fn opening_of(date: u32, hour: u8) -> u64
     ensures { result ≡ opening date hour }
 {
-    let midnight = (date as u64) * DAY;
+    let midnight = u64::from(date) * DAY;
     if 3 < hour {
         return midnight;
     }
-    let evening = midnight + 20 * HOUR;
-    if evening < DAY {
-        return 0;
-    }
-    evening - DAY
+    (midnight + 20 * HOUR).saturating_sub(DAY)
 }
 
+#[tactic(auto, unfolding(crate::specs::Calendar::closing))]
 fn closing_of(date: u32) -> u64
     ensures { result ≡ closing date }
 {
-    (date as u64 + 1) * DAY + 4 * HOUR
+    (u64::from(date) + 1) * DAY + 4 * HOUR
 }
 
-pub fn window_of(pil: u32, year: u8) -> Validity
+// None is refusal 11.
+#[tactic(auto, using(crate::proofs::Windows::accepted, crate::proofs::Windows::within_clock), unfolding(crate::specs::Calendar::window_in, crate::specs::Calendar::opens_at, crate::specs::Calendar::closes_at))]
+pub fn window_of(pil: u32, year: u8) -> Option<Window>
     ensures { validity_answer result ≡ window_in pil year }
 {
     if (99 < year) | !(pil < 1048576) | !real_in(pil, year) {
-        return Validity::Refused;
+        return None;
     }
     let p = parts(pil);
     let date = days::day_number(year, p.month, p.day);
-    let opens = opening_of(date, p.hour) as u32;
-    let closes = closing_of(date) as u32;
-    Validity::Given(Window { opens, closes })
+    Some(Window {
+        opens: opening_of(date, p.hour) as u32,
+        closes: closing_of(date) as u32,
+    })
 }
 
 // 'Its announced second', of whatever PIL and year: a caller that wants it real asks for the window.
+#[tactic(auto, unfolding(crate::specs::Calendar::announced_at))]
 pub fn announced_of(pil: u32, year: u8) -> u64
     ensures { result ≡ announced_at pil year }
 {
     let p = parts(pil);
     let date = days::day_number(year, p.month, p.day);
-    (date as u64) * DAY + (p.hour as u64) * HOUR + (p.minute as u64) * MINUTE
+    u64::from(date) * DAY + u64::from(p.hour) * HOUR + u64::from(p.minute) * MINUTE
 }
 
 // The laws of the calendar, as a promise of the crate.

@@ -8,24 +8,21 @@ mod rows; // the call that a row is
 use desk::Desk;
 use std::io::{Read, Write};
 
-// Nothing says that the input ends, so the loop counts its turns down, from a number that no run uses up.
+// Nothing says that the input ends, so the loop counts its turns, up to a number that no run comes to.
 fn main(rt: HostRuntime) {
     let mut from = rt.stdin();
     let mut to = rt.stdout();
     let mut d = Desk::new();
-    let mut turns = u64::MAX;
-    while turns > 0 {
+    for _ in 0..u64::MAX {
         let mut row = [0u8; 128];
         if from.read_exact(&mut row).is_err() {
             return;
         }
         let said = rows::call(d, row);
-        let next = said.desk;
-        let out = answers::bytes_of(next, said.number, said.value);
+        d = said.desk;
+        let out = answers::bytes_of(d, said.number, said.value);
         if to.write_all(&out).is_err() {
             return;
         }
-        d = next;
-        turns -= 1;
     }
 }

@@ -4,7 +4,7 @@ ghost use Rattle.std.specs.Prelude.{◌≤◌};
 
 use answer::{four, pair};
 use desk::Desk;
-use reply::{AddAnswer, WaitAnswer};
+use reply::Refusal;
 
 // What a call says: the number of its refusal or 0, and what it gives.
 #[derive(Clone, Copy)]
@@ -26,27 +26,20 @@ fn saying(number: u8, value: u32, desk: Desk) -> Said {
 fn end_of(length: u8) -> usize
     ensures { (9 ≤ result) × (result ≤ 128) }
 {
-    if length < 119 {
-        return 9 + length as usize;
-    }
-    128
+    (9 + length as usize).min(128)
 }
 
 fn packet(d: Desk, time: u32, row: [u8; 128]) -> Said {
     let end = end_of(row[8]);
     let heard = d.packet(row[7], time, &row[9..end]);
-    let next = heard.desk;
-    let a = heard.answer;
-    saying(a.number(), 0, next)
+    saying(reply::number(heard.answer), 0, heard.desk)
 }
 
 fn wait(d: Desk, time: u32) -> Said {
     let waited = d.wait(time);
-    let next = waited.desk;
-    let a = waited.answer;
-    match a {
-        WaitAnswer::Walked(n) => saying(0, n, next),
-        _ => saying(a.number(), 0, next),
+    match waited.answer {
+        Ok(n) => saying(0, n, waited.desk),
+        Err(r) => saying(r.number(), 0, waited.desk),
     }
 }
 
@@ -54,26 +47,20 @@ fn add(d: Desk, pil: u32, row: [u8; 128]) -> Said {
     let cni = pair(row[5], row[6]);
     let length = pair(row[9], row[10]);
     let added = d.add(cni, pil, row[7], row[8], length);
-    let next = added.desk;
-    let a = added.answer;
-    match a {
-        AddAnswer::Slot(i) => saying(0, (i % 256) as u32, next),
-        _ => saying(a.number(), 0, next),
+    match added.answer {
+        Ok(i) => saying(0, (i % 256) as u32, added.desk),
+        Err(r) => saying(r.number(), 0, added.desk),
     }
 }
 
 fn cancel(d: Desk, slot: usize) -> Said {
     let cancelled = d.cancel(slot);
-    let next = cancelled.desk;
-    let a = cancelled.answer;
-    saying(a.number(), 0, next)
+    saying(reply::number(cancelled.answer), 0, cancelled.desk)
 }
 
 fn second(d: Desk) -> Said {
     let passed = d.second();
-    let next = passed.desk;
-    let a = passed.answer;
-    saying(a.number(), 0, next)
+    saying(reply::number(passed.answer), 0, passed.desk)
 }
 
 // A panel that reads the count so often, and what its readings add up to. A second passes each time that this is `sum`: the count may
@@ -82,15 +69,11 @@ fn panel(d: Desk, often: u32, sum: u16) -> Said {
     let passing = sum as u32;
     let mut desk = d;
     let mut all: u32 = 0;
-    let mut k: u32 = 0;
-    while k < often {
-        let live = desk.live();
-        all = (all + live % 256) % 65536;
+    for _ in 0..often {
+        all = (all + desk.live() % 256) % 65536;
         if all == passing {
-            let passed = desk.second();
-            desk = passed.desk;
+            desk = desk.second().desk;
         }
-        k += 1;
     }
     saying(0, all, desk)
 }
@@ -105,6 +88,6 @@ pub(crate) fn call(d: Desk, row: [u8; 128]) -> Said {
         4 => cancel(d, row[7] as usize),
         5 => second(d),
         6 => panel(d, number, pair(row[5], row[6])),
-        0 | 7..=255 => saying(0, 0, Desk::new()),
+        _ => saying(0, 0, Desk::new()),
     }
 }

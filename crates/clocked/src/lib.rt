@@ -12,6 +12,7 @@ use matching::windows::open_at;
 const MINUTE: u64 = 60;
 
 // 'A home tuner and a length of 1 to 1,440 minutes.'
+#[tactic(auto, unfolding(crate::specs::Clocked::out_of_range))]
 pub fn out_of_range(b: Booking) -> bool
     ensures { result ≡ out_of_range b }
 {
@@ -24,21 +25,15 @@ fn in_length(s: u32, b: Booking) -> bool
 {
     let begins = announced_of(b.pil, b.year);
     let now = s as u64;
-    if now < begins {
-        return false;
-    }
-    now - begins < MINUTE * b.length as u64
+    begins <= now && now - begins < MINUTE * b.length as u64
 }
 
 // 'Inside its window.' Most timers' days are others, which their announced second tells: the window is computed for the rest alone.
+#[tactic(auto, unfolding(crate::specs::Clocked::on_time))]
 pub fn on_time(s: u32, b: Booking) -> bool
     ensures { result ≡ on_time s b }
 {
-    let within = in_length(s, b);
-    if within {
-        return open_at(s, b);
-    }
-    false
+    in_length(s, b) && open_at(s, b)
 }
 
 // The laws of the clock's own seconds, as a promise of the crate.

@@ -2,7 +2,7 @@
 #![tactic(auto)]
 
 ghost use Rattle.std.specs.Prelude.{true, ◌≡◌};
-ghost use Rattle.codes.specs.Codes.{is_colour, is_decimal, is_hexadecimal, figure, is_graphics, is_mark, is_pair, colour_by};
+ghost use Rattle.codes.specs.Codes.{is_colour, is_decimal, is_letter, is_hexadecimal, figure, is_graphics, is_mark, is_pair, colour_by};
 ghost use Rattle.codes.specs.Laws.{Laws};
 
 // '"Alpha Magenta" colour control character'
@@ -22,29 +22,37 @@ pub enum Colour {
 pub fn is_colour(c: u8) -> bool
     ensures { result ≡ is_colour c }
 {
-    (1 <= c) & (c <= 7) & (c != MAGENTA)
+    matches!(c, 1..=7) & (c != MAGENTA)
 }
 
 pub fn is_decimal(c: u8) -> bool
     ensures { result ≡ is_decimal c }
 {
-    (48 <= c) & (c <= 57)
+    matches!(c, b'0'..=b'9')
+}
+
+// A to F.
+fn is_letter(c: u8) -> bool
+    ensures { result ≡ is_letter c }
+{
+    matches!(c, b'A'..=b'F')
 }
 
 pub fn is_hexadecimal(c: u8) -> bool
     ensures { result ≡ is_hexadecimal c }
 {
-    is_decimal(c) | ((65 <= c) & (c <= 70))
+    is_decimal(c) | is_letter(c)
 }
 
 // The number that a figure shows, and 0 of what is none.
+#[tactic(auto, using(crate::proofs::Facts::decimal_within, crate::proofs::Facts::letter_within))]
 pub fn figure(c: u8) -> u8
     ensures { result ≡ figure c }
 {
     if is_decimal(c) {
         return c - 48;
     }
-    if (65 <= c) & (c <= 70) {
+    if is_letter(c) {
         return c - 55;
     }
     0
@@ -53,13 +61,14 @@ pub fn figure(c: u8) -> u8
 pub fn is_graphics(c: u8) -> bool
     ensures { result ≡ is_graphics c }
 {
-    (16 <= c) & (c <= 23)
+    matches!(c, 16..=23)
 }
 
+#[tactic(auto, unfolding(crate::specs::Codes::is_mark))]
 pub fn is_mark(c: u8) -> bool
     ensures { result ≡ is_mark c }
 {
-    is_colour(c) | ((c == MAGENTA) | (c == CONCEAL))
+    is_colour(c) | matches!(c, MAGENTA | CONCEAL)
 }
 
 pub fn is_pair(c: u8, d: u8) -> bool
@@ -68,6 +77,7 @@ pub fn is_pair(c: u8, d: u8) -> bool
     is_mark(c) & (c == d)
 }
 
+#[tactic(auto, unfolding(crate::specs::Codes::colour_by))]
 pub fn colour_by(k: Colour, c: u8) -> Colour
     ensures { result ≡ colour_by k c }
 {

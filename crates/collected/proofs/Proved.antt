@@ -2,9 +2,11 @@
 use Prim.Native.Nat.{ℕ}
 use mathlib.Core.Path.{◌≡◌, refl, ap}
 use mathlib.Core.List.{List}
+use Rattle.std.proofs.Common.{Result}
 use Rattle.answer.specs.Answer.{Unique}
 use Rattle.answer.proofs.Answers.{equation, paired}
-use Rattle.preview.specs.declared.Reading.{Reading}
+use Rattle.preview.specs.declared.Page.{Page}
+use Rattle.preview.specs.declared.Refusal.{Refusal}
 use Rattle.preview.specs.Taken.{ReadAs}
 use Rattle.preview.proofs.Proved as preview
 use Rattle.collected.specs.declared.Collected.{Collected}
@@ -14,7 +16,7 @@ use Rattle.collected.proofs.Machine.{pieces, settled}
 
 read_once : (c : Collected) → Unique (λ r. ReadAs (held c) r)
 read_once c r s e f =
-    ap (λ (o : Reading × List ℕ). o.0) ((preview.laws).read_unique (held c) (r, held c) (s, held c) (e, refl) (f, refl))
+    ap (λ (o : Result Page Refusal × List ℕ). o.0) ((preview.laws).read_unique (held c) (r, held c) (s, held c) (e, refl) (f, refl))
 
 pub laws : Laws
 laws = record {

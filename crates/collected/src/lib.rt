@@ -3,11 +3,12 @@
 
 ghost use Rattle.std.specs.Prelude.{true, ◌≡◌, take};
 ghost use Rattle.preview.specs.Taken.{ReadAs};
-ghost use Rattle.collected.specs.Collected.{held_in, held, blank, after_piece, is_full};
+ghost use Rattle.collected.specs.Collected.{held_in, held, blank, after_piece, is_full, left};
 ghost use Rattle.collected.specs.Laws.{Laws};
 
 use answer::least;
-use preview::Reading;
+use held::{Collecting, Held};
+use preview::{Page, Refusal};
 
 // A byte more than a page has: what follows it decides nothing.
 const DECIDING: usize = 961;
@@ -15,11 +16,10 @@ const DECIDING: usize = 961;
 // A page as far as it has arrived: its first bytes, one more than a page has, and how many there are.
 #[derive(Clone, Copy)]
 pub struct Collected {
-    pub length: usize,
-    pub bytes: [u8; 961],
+    pub held: Held<961>,
 }
 
-fn read_first(bytes: [u8; 961], n: usize) -> Reading
+fn read_first(bytes: [u8; 961], n: usize) -> Result<Page, Refusal>
     ensures { ReadAs (take (held_in n) bytes) result }
 {
     let end = least(n, DECIDING);
@@ -31,43 +31,47 @@ impl Collected {
     pub fn new() -> Collected
         ensures { result ≡ blank }
     {
-        Collected {
-            length: 0,
-            bytes: [0; 961],
-        }
+        Collected { held: Held::new() }
     }
 
     // As many bytes of a piece as find room are kept.
+    #[tactic(auto, unfolding(crate::specs::Collected::after_piece))]
     pub fn feed(self, piece: &[u8]) -> Collected
         ensures value { result ≡ after_piece piece.now self }
         ensures piece_value { piece.exit.now ≡ piece.entry.now }
     {
-        let start = least(self.length, DECIDING);
-        let more = least(DECIDING - start, piece.len());
-        let mut bytes = self.bytes;
-        let mut i: usize = 0;
-        while i < more {
-            bytes[start + i] = piece[i];
-            i += 1;
+        Collected {
+            held: self.held.feed(piece),
         }
-        let length = start + more;
-        Collected { length, bytes }
     }
 
     // Whether no byte more decides anything (law `settled`).
     pub fn full(self) -> bool
         ensures { result ≡ is_full self }
     {
-        DECIDING <= self.length
+        self.held.full()
     }
 
     // The page, where the input ends here.
-    #[tactic(auto, unfolding(crate::specs::Collected::held))]
-    pub fn read(self) -> Reading
+    #[tactic(auto, unfolding(crate::specs::Collected::held, held::specs::Held::held))]
+    pub fn read(self) -> Result<Page, Refusal>
         ensures { ReadAs (held self) result }
     {
-        let bytes = self.bytes;
-        read_first(bytes, self.length)
+        read_first(self.held.bytes, self.held.length)
+    }
+}
+
+impl Collecting for Collected {
+    ghost left = { left };
+
+    ghost after = { after_piece };
+
+    fn fed(self, piece: &[u8]) -> Collected {
+        self.feed(piece)
+    }
+
+    fn is_full(self) -> bool {
+        self.full()
     }
 }
 

@@ -5,17 +5,14 @@ ghost use Rattle.reply.specs.Numbers.{state_says, ask_answer};
 
 use crate::Desk;
 use matching::windows::ended_at;
-use reply::{AskAnswer, State};
+use reply::{NoTimer, State};
 use rule::Copy;
-use rule::copies::is_held;
-use sixteen::slots::timer_at;
 
 fn state_of(c: Copy) -> State
     ensures { state_says result ≡ copy_says c }
 {
     match c {
-        Copy::Free => State::Waiting,
-        Copy::Waiting => State::Waiting,
+        Copy::Free | Copy::Waiting => State::Waiting,
         Copy::Prepared { since: _ } => State::Prepared,
         Copy::Recording { place, mi: _ } => State::Recording { place },
         Copy::RunningOn { place, since: _ } => State::RunningOn { place },
@@ -25,23 +22,15 @@ fn state_of(c: Copy) -> State
 
 impl Desk {
     // 'Asking a slot gives waiting, prepared, recording with place, running on with place, or ended', or 'by the clock'.
-    pub fn ask(self, slot: usize) -> AskAnswer
+    #[tactic(auto, unfolding(crate::specs::Calls::ask_of))]
+    pub fn ask(self, slot: usize) -> Result<State, NoTimer>
         ensures { ask_answer result ≡ ask_of slot self }
     {
-        let timers = self.timers;
-        let t = timer_at(timers, slot);
-        let b = t.booking;
-        let c = t.copy;
-        let held = is_held(c);
-        if (15 < slot) | !held {
-            return AskAnswer::NoTimer;
+        let t = self.timer(slot)?;
+        if ended_at(self.clock, t.booking) {
+            return Ok(State::Ended);
         }
-        let over = ended_at(self.clock, b);
-        if over {
-            return AskAnswer::Says(State::Ended);
-        }
-        let state = state_of(c);
-        AskAnswer::Says(state)
+        Ok(state_of(t.copy))
     }
 
     // 'The count of live timers', as the desk keeps it.

@@ -1,113 +1,86 @@
 // Packets: refused, read, and heard.
 ghost use Rattle.std.specs.Prelude.{◌≡◌};
 ghost use Rattle.answer.specs.Answer.{first_of, number, after};
-ghost use Rattle.desk.specs.Calls.{tuner_rows, with_label, hearing_at, obeying, hearing, packet_of};
-ghost use Rattle.reply.specs.Numbers.{packet_number};
+ghost use Rattle.desk.specs.Calls.{place_of, tuner_rows, with_label, hearing_at, obeying, packet_of};
+ghost use Rattle.reply.specs.Numbers.{told, packet_refusal, packet_number};
 
-use crate::moments::CLOCK_END;
-use crate::{Desk, Heard};
-use label::{Label, Reading};
+use crate::{Desk, Said};
+use label::Label;
 use places::standing::heard_at;
 use places::{label_at, put_label};
-use reply::{PacketAnswer, PacketRefusal};
+use reply::PacketRefusal;
+
+// 'Sixteen places, a tuner 0 to 3 with an LCI 0 to 3, ordered by tuner, then LCI.'
+pub(crate) fn place_of(tuner: u8, l: Label) -> usize
+    ensures { result ≡ place_of tuner l }
+{
+    usize::from(tuner) * 4 + usize::from(l.lci)
+}
 
 impl Desk {
-    // 'Sixteen places, a tuner 0 to 3 with an LCI 0 to 3, ordered by tuner, then LCI.'
     fn with_label(self, tuner: u8, l: Label) -> Desk
         ensures { result ≡ with_label tuner l self }
     {
-        let places = self.places;
-        let timers = self.timers;
-        let p = tuner as usize * 4 + l.lci as usize;
-        let old = label_at(places, p);
-        let new = heard_at(self.clock, l, old);
-        let next = put_label(places, p, new);
+        let p = place_of(tuner, l);
+        let new = heard_at(self.clock, l, label_at(self.places, p));
         Desk {
-            clock: self.clock,
-            live: self.live,
-            places: next,
-            timers: timers,
+            places: put_label(self.places, p, new),
+            ..self
         }
     }
 
     // 'First passes every second up to t, then takes effect.'
+    #[tactic(auto, unfolding(crate::specs::Calls::hearing_at))]
     fn hearing_at(self, tuner: u8, time: u32, l: Label) -> Desk
         ensures { result ≡ hearing_at tuner time l self }
     {
-        let p = self.pass(time);
-        let passed = p.desk;
-        let changed = passed.with_label(tuner, l);
-        changed.moment()
+        self.pass(time).desk.with_label(tuner, l).moment()
     }
 
-    // 'Its answer is the number alone; desk, clock and lent buffers are unchanged.'
-    pub(crate) fn refuse(self, r: PacketRefusal) -> Heard
-        ensures { result ≡ record { answer = PacketAnswer.Refused r; desk = self } }
-    {
-        Heard {
-            answer: PacketAnswer::Refused(r),
-            desk: self,
-        }
-    }
-
-    // Refusals 8, 9 and 10, in this order; `Done` where none applies.
-    fn barred(self, tuner: u8, time: u32) -> PacketAnswer
-        ensures { packet_number result ≡ number (first_of (tuner_rows self tuner time) self) }
+    // Refusals 8, 9 and 10, in this order.
+    fn barred(self, tuner: u8, time: u32) -> Result<(), PacketRefusal>
+        ensures { told packet_refusal result ≡ first_of (tuner_rows self tuner time) tt }
     {
         if 3 < tuner {
-            return PacketAnswer::Refused(PacketRefusal::Tuner);
+            return Err(PacketRefusal::Tuner);
         }
-        if time < self.clock {
-            return PacketAnswer::Refused(PacketRefusal::Before);
-        }
-        if CLOCK_END < time {
-            return PacketAnswer::Refused(PacketRefusal::Past);
-        }
-        PacketAnswer::Done
+        self.timely(time)?;
+        Ok(())
     }
 
     // A label update, or the label takes effect.
-    fn obey(self, tuner: u8, time: u32, l: Label) -> Heard
-        ensures { (packet_number result.answer ≡ number (obeying tuner time l self)) × (result.desk ≡ after self (obeying tuner time l self)) }
+    #[tactic(auto, unfolding(crate::specs::Calls::obeying))]
+    fn obey(self, tuner: u8, time: u32, l: Label) -> Result<Desk, PacketRefusal>
+        ensures { told packet_refusal result ≡ obeying tuner time l self }
     {
         if l.luf != 0 {
             return self.update(tuner, time, l);
         }
-        let next = self.hearing_at(tuner, time, l);
-        Heard {
-            answer: PacketAnswer::Done,
-            desk: next,
-        }
+        Ok(self.hearing_at(tuner, time, l))
     }
 
-    // A label already read: 8, 9, 10, then 7, 11 and 12.
-    fn hear(self, tuner: u8, time: u32, l: Label) -> Heard
-        ensures { (packet_number result.answer ≡ number (hearing tuner time l self))
-            × (result.desk ≡ after self (hearing tuner time l self)) }
+    // The desk that a packet leaves: refusals 8, 9 and 10, those of the reader, then 7, 11 and 12.
+    fn heard(self, tuner: u8, time: u32, bytes: &[u8]) -> Result<Desk, PacketRefusal>
+        ensures answer_value { told packet_refusal result ≡ packet_of tuner time bytes.now self }
+        ensures bytes_value { bytes.exit.now ≡ bytes.entry.now }
     {
-        let barred = self.barred(tuner, time);
-        match barred {
-            PacketAnswer::Refused(r) => self.refuse(r),
-            PacketAnswer::Done => self.obey(tuner, time, l),
-        }
+        self.barred(tuner, time)?;
+        let got = reader::read(bytes).map_err(PacketRefusal::Unread)?;
+        self.obey(tuner, time, got.label)
     }
 
     // 'Packet: 8, 9, 10, 1 to 7', then 11 and 12.
-    pub fn packet(self, tuner: u8, time: u32, bytes: &[u8]) -> Heard
+    pub fn packet(self, tuner: u8, time: u32, bytes: &[u8]) -> Said<(), PacketRefusal>
         ensures answer_value { (packet_number result.answer ≡ number (packet_of tuner time bytes.now self))
             × (result.desk ≡ after self (packet_of tuner time bytes.now self)) }
         ensures bytes_value { bytes.exit.now ≡ bytes.entry.now }
     {
-        let barred = self.barred(tuner, time);
-        match barred {
-            PacketAnswer::Refused(r) => self.refuse(r),
-            PacketAnswer::Done => {
-                let reading = reader::read(bytes);
-                match reading {
-                    Reading::Refused(r) => self.refuse(PacketRefusal::Unread(r)),
-                    Reading::Read(r) => self.hear(tuner, time, r.label),
-                }
-            }
+        match self.heard(tuner, time, bytes) {
+            Ok(desk) => Said {
+                answer: Ok(()),
+                desk,
+            },
+            Err(r) => self.refuse(r),
         }
     }
 }

@@ -7,11 +7,10 @@ mod moments; // seconds, waits, and the moment that every accepted call ends in
 mod timers; // adding and cancelling
 mod updating; // label updates
 
-ghost use Rattle.std.specs.Prelude.{true, ◌≡◌};
+ghost use Rattle.std.specs.Prelude.{true, ◌≡◌, Err};
 ghost use Rattle.desk.specs.Laws.{Laws};
 
 use places::Stamped;
-use reply::{AddAnswer, CancelAnswer, PacketAnswer, SecondAnswer, WaitAnswer};
 use rule::Timer;
 
 // `live` is how many timers are live: each moment counts them, so that reading it looks at no slot.
@@ -23,34 +22,23 @@ pub struct Desk {
     pub timers: [Timer; 16],
 }
 
+// What a call answers, and the desk that it leaves.
 #[derive(Clone, Copy)]
-pub struct Heard {
-    pub answer: PacketAnswer,
+pub struct Said<T, R> {
+    pub answer: Result<T, R>,
     pub desk: Desk,
 }
 
-#[derive(Clone, Copy)]
-pub struct Waited {
-    pub answer: WaitAnswer,
-    pub desk: Desk,
-}
-
-#[derive(Clone, Copy)]
-pub struct Added {
-    pub answer: AddAnswer,
-    pub desk: Desk,
-}
-
-#[derive(Clone, Copy)]
-pub struct Cancelled {
-    pub answer: CancelAnswer,
-    pub desk: Desk,
-}
-
-#[derive(Clone, Copy)]
-pub struct Passed {
-    pub answer: SecondAnswer,
-    pub desk: Desk,
+impl Desk {
+    // 'Its answer is the number alone; desk, clock and lent buffers are unchanged.'
+    fn refuse<T: Copy, R: Copy>(self, why: R) -> Said<T, R>
+        ensures { result ≡ record { answer = Err why; desk = self } }
+    {
+        Said {
+            answer: Err(why),
+            desk: self,
+        }
+    }
 }
 
 // The laws of one call and one moment, as a promise of the crate.

@@ -1,15 +1,15 @@
 // Moments, seconds and waits. The seconds after which a desk is quiet are not walked one by one: see `pass`.
 ghost use Rattle.std.specs.Prelude.{◌<◌, ◌≡◌};
-ghost use Rattle.answer.specs.Answer.{number, after};
+ghost use Rattle.answer.specs.Answer.{first_of, number, after};
 ghost use Rattle.desk.specs.Moments.{fresh, moment, clocked_at, next_second, quiet, pass_to, walked_to};
-ghost use Rattle.desk.specs.Calls.{wait_of, second_of};
-ghost use Rattle.reply.specs.Numbers.{wait_answer, second_number};
+ghost use Rattle.desk.specs.Calls.{time_rows, wait_of, second_of};
+ghost use Rattle.reply.specs.Numbers.{told, wait_refusal, wait_answer, second_number};
 ghost use Rattle.desk.specs.Numbers.{said_by, left_by};
 
-use crate::{Desk, Passed, Waited};
+use crate::{Desk, Said};
 use places::any_stands;
 use places::standing::no_label;
-use reply::{SecondAnswer, WaitAnswer};
+use reply::{PastEnd, WaitRefusal};
 use sixteen::slots::{all_next, any_by_labels, no_timer};
 
 pub(crate) const CLOCK_END: u32 = 3155774400;
@@ -26,33 +26,32 @@ impl Desk {
     pub fn new() -> Desk
         ensures { result ≡ fresh }
     {
-        let l = no_label();
-        let t = no_timer();
         Desk {
             clock: 0,
             live: 0,
-            places: [l; 16],
-            timers: [t; 16],
+            places: [no_label(); 16],
+            timers: [no_timer(); 16],
         }
     }
 
     // 'At each moment every timer's copy goes on', and the count of those that are live is kept.
+    #[tactic(auto, unfolding(crate::specs::Moments::moment))]
     fn moment_at(self, s: u32) -> Desk
         ensures { result ≡ moment (clocked_at s self) }
     {
-        let places = self.places;
-        let timers = self.timers;
-        let next = all_next(s, places, timers);
-        let moved = next.timers;
+        let next = all_next(s, self.places, self.timers);
+        // By a name of its own: the check follows no array straight from a struct's field into a literal.
+        let timers = next.timers;
         Desk {
             clock: s,
             live: next.live,
-            places: places,
-            timers: moved,
+            timers,
+            ..self
         }
     }
 
     // 'Each whole second is a moment.'
+    #[tactic(auto, unfolding(crate::specs::Moments::next_second))]
     fn step(self) -> Desk
         requires { self.clock < 4294967295 }
         ensures { result ≡ next_second self }
@@ -67,14 +66,11 @@ impl Desk {
     }
 
     // 'No label stands and nothing is recording or running on.'
+    #[tactic(auto, unfolding(crate::specs::Moments::quiet))]
     fn quiet(self) -> bool
         ensures { result ≡ quiet self }
     {
-        let places = self.places;
-        let timers = self.timers;
-        let up = any_stands(self.clock, places);
-        let busy = any_by_labels(timers);
-        !up & !busy
+        !any_stands(self.clock, self.places) && !any_by_labels(self.timers)
     }
 
     // 'A call at t first passes every second up to t.' Of a quiet desk the moment at t leaves what all those seconds would: a label that has
@@ -84,13 +80,12 @@ impl Desk {
     {
         let mut d = self;
         let mut n: u32 = 0;
+        // A `while`: its end is the clock, which a desk that is quiet does not wait for.
         while d.clock < t {
-            let quiet = d.quiet();
-            if quiet {
-                let last = d.moment_at(t);
+            if d.quiet() {
                 return Pass {
                     walked: n,
-                    desk: last,
+                    desk: d.moment_at(t),
                 };
             }
             d = d.step();
@@ -99,46 +94,48 @@ impl Desk {
         Pass { walked: n, desk: d }
     }
 
-    // 'Wait: 9, 10.'
-    pub fn wait(self, time: u32) -> Waited
-        ensures { (wait_answer result.answer ≡ said_by (wait_of time self)) × (result.desk ≡ left_by self (wait_of time self)) }
+    // Refusals 9 and 10, in this order.
+    pub(crate) fn timely(self, time: u32) -> Result<(), WaitRefusal>
+        ensures { told wait_refusal result ≡ first_of (time_rows self time) tt }
     {
         if time < self.clock {
-            return Waited {
-                answer: WaitAnswer::Before,
-                desk: self,
-            };
+            return Err(WaitRefusal::Before);
         }
         if CLOCK_END < time {
-            return Waited {
-                answer: WaitAnswer::Past,
-                desk: self,
-            };
+            return Err(WaitRefusal::Past);
         }
-        let p = self.pass(time);
-        let passed = p.desk;
-        // 'Each accepted call' is a moment, also a wait to the present second.
-        let last = passed.moment();
-        Waited {
-            answer: WaitAnswer::Walked(p.walked),
-            desk: last,
+        Ok(())
+    }
+
+    // 'Wait: 9, 10.'
+    #[tactic(auto, unfolding(crate::specs::Calls::wait_of))]
+    pub fn wait(self, time: u32) -> Said<u32, WaitRefusal>
+        ensures { (wait_answer result.answer ≡ said_by (wait_of time self)) × (result.desk ≡ left_by self (wait_of time self)) }
+    {
+        match self.timely(time) {
+            Err(r) => self.refuse(r),
+            Ok(()) => {
+                let p = self.pass(time);
+                // 'Each accepted call' is a moment, also a wait to the present second.
+                Said {
+                    answer: Ok(p.walked),
+                    desk: p.desk.moment(),
+                }
+            }
         }
     }
 
     // One second passes, but not past the clock's end.
-    pub fn second(self) -> Passed
+    #[tactic(auto, unfolding(crate::specs::Calls::second_of))]
+    pub fn second(self) -> Said<(), PastEnd>
         ensures { (second_number result.answer ≡ number (second_of self)) × (result.desk ≡ after self (second_of self)) }
     {
         if CLOCK_END <= self.clock {
-            return Passed {
-                answer: SecondAnswer::Past,
-                desk: self,
-            };
+            return self.refuse(PastEnd);
         }
-        let next = self.step();
-        Passed {
-            answer: SecondAnswer::Done,
-            desk: next,
+        Said {
+            answer: Ok(()),
+            desk: self.step(),
         }
     }
 }

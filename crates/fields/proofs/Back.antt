@@ -1,4 +1,5 @@
 -- A programme's bytes taken as one are the programme; those of none are 0.
+use Rattle.std.specs.Prelude.{ℕ, Option, None, Some}
 use mathlib.Core.Bool.{Bool, true, false, not}
 use mathlib.Core.Path.{◌≡◌, refl}
 use lib.Dec.{eqb}
@@ -7,8 +8,6 @@ use Rattle.group.specs.declared.Offset.{Offset}
 use Rattle.group.specs.declared.Offset.TheVariants.{East, West}
 use Rattle.programmes.specs.declared.Finish.{Finish}
 use Rattle.programmes.specs.declared.Finish.TheVariants as finish
-use Rattle.programmes.specs.declared.Series.{Series}
-use Rattle.programmes.specs.declared.Series.TheVariants as series
 use Rattle.programmes.specs.declared.Programme.{Programme}
 use Rattle.programmes.specs.Page.{blank}
 use Rattle.fields.specs.Fields.{finish_kind, finish_hour, finish_minute, side, quarters, flag, in_series, series_code, programme_bytes}
@@ -27,9 +26,9 @@ flag_back : (b : Bool) → not (eqb (flag b) 0) ≡ b
 flag_back true = refl
 flag_back false = refl
 
-series_back : (s : Series) → series_by (in_series s) (series_code s) ≡ s
-series_back series.Absent = refl
-series_back (series.Code k) = refl
+series_back : (s : Option ℕ) → series_by (in_series s) (series_code s) ≡ s
+series_back None = refl
+series_back (Some k) = refl
 
 pub back : (q : Programme) → programme_at (programme_bytes q) 0 ≡ q
 unfolding programme_at programme_bytes

@@ -1,11 +1,13 @@
 -- The programmes' bytes stored one after the other.
-use Prim.Native.Nat.{ℕ, ◌+◌, ◌*◌, ◌≤◌, ◌<◌}
+use Prim.Native.Nat.{ℕ, ◌+◌, ◌-◌, ◌*◌, ◌≤◌, ◌<◌}
 use mathlib.Core.Path.{◌≡◌, refl, sym, ap, ◌∙◌}
 use mathlib.Core.List.{List, [], ◌∷◌, ◌++◌, append-nil, append_assoc}
 use native.Mathlib.Numerals.{add-one}
 use native.Mathlib.Omega.{arith}
 use lib.ListN.{length, get_or, take, drop, set, length-append, length-set, drop_of_length-le}
-use lib.Seq.{sets, sets-eq, length-sets, length-take-le, take-suc, take_all, paste}
+use lib.Seq.{sets, sets-eq, length-sets, length-take-le, take-suc, take_all}
+use borrow.Rule.Slice.PartMut.{post_of}
+use Rattle.std.proofs.Common.{drop-drop}
 use Rattle.answer.proofs.Texts.{sets_append}
 use Rattle.programmes.specs.declared.Programme.{Programme}
 use Rattle.fields.specs.Fields.{programme_bytes, bytes_of}
@@ -76,9 +78,10 @@ stored_all was n qs {out} {i} s h =
     let e : out ≡ sets was 0 (n ∷ bytes_of qs) = s.now ∙ rw a refl in
     e ∙ filled was (n ∷ bytes_of qs) (omega (arith, bytes_length qs))
 
--- sixteen bytes stored at a place
-pub pasted : (out : List ℕ) (at : ℕ) (vs : List ℕ) → length vs ≡ 16 → at + 16 ≤ length out → paste out at vs 16 ≡ sets out at vs
-pasted out at vs n h =
-    let a : take 16 vs ≡ vs = take_all 16 vs (omega arith) in
-    let e : paste out at vs 16 ≡ take at out ++ vs ++ drop (at + length vs) out = rw (a, n) refl in
-    e ∙ sym (sets-eq vs out at (omega arith))
+-- bytes that `copy_from_slice` stored at a place
+pub stored_at : (l vs new : List ℕ) (at n : ℕ) → length vs ≡ n → at + n ≤ length l → new ≡ vs →
+    take at l ++ (new ++ post_of at (at + n - at) l) ≡ sets l at vs
+stored_at l vs new at n e h same =
+    let gone : at + n - at ≡ length vs = omega arith in
+    let rest : post_of at (length vs) l ≡ drop (at + length vs) l = rw (← drop-drop (length vs) at l) refl in
+    rw (gone, rest, same) (sym (append_assoc (take at l) vs (drop (at + length vs) l)) ∙ sym (sets-eq vs l at (omega arith)))

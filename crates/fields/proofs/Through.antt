@@ -1,17 +1,14 @@
 -- What is answered through lent bytes: a refusal where they are more or fewer, else the answer of the call below.
-use Prim.Native.Nat.{ℕ, zero, suc, ◌<◌, ◌≤◌}
-use mathlib.Core.Path.{◌≡◌, refl, sym, ap, ◌∙◌}
-use mathlib.Core.Bool.{Bool, true, false, cond}
-use mathlib.Core.List.{List, [], ◌∷◌, ◌++◌}
+use Prim.Native.Nat.{ℕ, ◌≤◌}
+use mathlib.Core.Path.{◌≡◌, refl, ap, ◌∙◌}
+use mathlib.Core.List.{List, ◌∷◌}
 use native.Mathlib.Omega.{arith}
-use lib.Dec.{lit<}
 use lib.ListN.{length, get_or}
-use Rattle.answer.specs.Answer.{Answer, refused, given, Row, first_of, number, after, and_then}
+use Rattle.answer.specs.Answer.{Answer, refused, given, number, after, and_then}
 use Rattle.label.proofs.Rows.{other_length, that_length}
 use Rattle.programmes.specs.declared.Programme.{Programme}
 use Rattle.programmes.specs.declared.Page.{Page}
-use Rattle.programmes.specs.Page as page
-use Rattle.programmes.specs.Page.{reading_of, packets_of, packet_rows, rows_to, most, page_of}
+use Rattle.programmes.specs.Page.{reading_of, page_of}
 use Rattle.programmes.proofs.Most.{at_most_103}
 use Rattle.programmes.specs.Timer.{pil_of}
 use Rattle.programmes.specs.Written.{Wrote, writing_of, programmes_of}
@@ -29,36 +26,6 @@ module _ {B : Type 0} (n : ℕ) (f : List ℕ) (g : List ℕ → Answer B) where
   pub stopped : (length f ≡ n → ⊥) → refused wrong_room ≡ and_then (room_of n f) g
   stopped h = rw (other_length f h)
 
--- ── no refusal has the number 0 ────────────────────────────────────────────────────────────────────────────────────
-abbrev Told : List Row → Type 0
-Told [] = Unit {0}
-Told (row ∷ rows) = (0 < row.1) × Told rows
-
-told_append : (xs ys : List Row) → Told xs → Told ys → Told (xs ++ ys)
-told_append [] ys h k = k
-told_append (x ∷ xs) ys h k = (h.0, told_append xs ys h.1 k)
-
-told_to : (p : List ℕ) (n : ℕ) → Told (rows_to p n)
-unfolding rows_to
-told_to p zero = tt
-told_to p (suc n) = told_append (rows_to p n) (packet_rows p n) (told_to p n) (lit< tt, (lit< tt, (lit< tt, (lit< tt, tt))))
-
-given_by : {A : Type 0} (rows : List Row) (a : A) → Told rows → number (first_of rows a) ≡ 0 → first_of rows a ≡ given a
-given_by [] a h e = refl
-given_by (row ∷ rows) a h e = go row.0 (λ f. given_by rows a h.1 f) e
-  where
-    go : (t : Bool) → (number (first_of rows a) ≡ 0 → first_of rows a ≡ given a) →
-        number (cond t (refused row.1) (first_of rows a)) ≡ 0 → cond t (refused row.1) (first_of rows a) ≡ given a
-    go true more e = absurd (omega (arith, h.0))
-    go false more e = more e
-
-pub read_given : (p : List ℕ) → number (reading_of p) ≡ 0 → (reading_of p ≡ given (after [] (reading_of p))) × (length (after [] (reading_of p)) ≤ most)
-unfolding reading_of
-read_given p e =
-    let r = given_by (rows_to p (packets_of p)) (page.programmes_to p (packets_of p)) (told_to p (packets_of p)) e in
-    let s : reading_of p ≡ given (after [] (reading_of p)) = r ∙ sym (ap (λ (a : Answer (List Programme)). given (after [] a)) r) in
-    (s, at_most_103 p (after [] (reading_of p)) s)
-
 -- ── a page read ────────────────────────────────────────────────────────────────────────────────────────────────────
 abbrev in_bytes : Answer (List Programme) → Answer (List ℕ)
 in_bytes a = and_then a (λ qs. given (page_bytes qs))
@@ -71,29 +38,30 @@ read_through : (p out : List ℕ) → length out ≡ 1649 → in_bytes (reading_
 unfolding page_into
 read_through p out h = through 1649 out (λ o. in_bytes (reading_of p)) h
 
-refused_on : (was : List ℕ) (a : Answer (List Programme)) {n : ℕ} → n ≡ number a → (n ≡ 0 → ⊥) →
-    (n ≡ number (in_bytes a)) × (was ≡ after was (in_bytes a))
-refused_on was (refused m) e h = (e, refl)
-refused_on was (given qs) e h = absurd (h e)
+-- the page that is given, of the programmes
+abbrev paged : Answer (List Programme) → Answer Page
+paged a = and_then a (λ qs. given (page_of qs))
 
-pub read_refused : (p out : List ℕ) {n : ℕ} → length out ≡ 1649 → n ≡ number (reading_of p) → (n ≡ 0 → ⊥) →
-    (n ≡ number (page_into p out)) × (out ≡ after out (page_into p out))
-read_refused p out h e k =
-    let t = as_both out (read_through p out h) in
-    let r = refused_on out (reading_of p) e k in
-    (r.0 ∙ t.0, r.1 ∙ t.1)
+-- and its bytes
+abbrev stored : Answer Page → Answer (List ℕ)
+stored a = and_then a (λ (page : Page). given (page.count ∷ bytes_of page.programmes))
 
-pub read_few : (p : List ℕ) {page : Page} → number (reading_of p) ≡ 0 → page ≡ page_of (after [] (reading_of p)) → page.count ≤ 103
-unfolding page_of
-read_few p e k = rw k (read_given p e).1
-
-pub read_filled : (p out : List ℕ) {page : Page} {left : List ℕ} → length out ≡ 1649 → number (reading_of p) ≡ 0 →
-    page ≡ page_of (after [] (reading_of p)) → left ≡ page.count ∷ bytes_of page.programmes →
-    (0 ≡ number (page_into p out)) × (left ≡ after out (page_into p out))
+stored_same : (a : Answer (List Programme)) → stored (paged a) ≡ in_bytes a
 unfolding page_of page_bytes
-read_filled p out h e k f =
-    let t = as_both out (sym (ap in_bytes (read_given p e).0) ∙ read_through p out h) in
-    (t.0, f ∙ rw k t.1)
+stored_same (refused n) = refl
+stored_same (given qs) = refl
+
+pub read_told : (p out : List ℕ) {a : Answer Page} → length out ≡ 1649 → a ≡ paged (reading_of p) →
+    (number (stored a) ≡ number (page_into p out)) × (after out (stored a) ≡ after out (page_into p out))
+read_told p out h e = as_both out (ap stored e ∙ stored_same (reading_of p) ∙ read_through p out h)
+
+pub read_few : (p : List ℕ) {page : Page} → given page ≡ paged (reading_of p) → page.count ≤ 103
+unfolding page_of
+read_few p {page} e = go (reading_of p) refl e
+  where
+    go : (a : Answer (List Programme)) → reading_of p ≡ a → given page ≡ paged a → page.count ≤ 103
+    go (refused n) f g = absurd (let z : ◌≡◌ {A = ℕ} 0 1 = cc in omega arith)
+    go (given qs) f g = let c : page.count ≡ length qs = ap (λ a. (after page a).count) g in omega (arith, at_most_103 p qs f)
 
 -- ── a page written ─────────────────────────────────────────────────────────────────────────────────────────────────
 abbrev Same : ℕ → List ℕ → List ℕ → Answer Wrote → Type 0

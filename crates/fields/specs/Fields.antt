@@ -1,15 +1,12 @@
 -- A page's programmes as plain bytes, for callers in another language.
-use Rattle.std.specs.Prelude.{ℕ, zero, suc, ◌+◌, ◌*◌, Bool, cond, not, List, [], ◌∷◌, ◌++◌, eqb, length, get_or, take}
+use Rattle.std.specs.Prelude.{ℕ, zero, suc, ◌+◌, ◌*◌, Bool, cond, not, List, [], ◌∷◌, ◌++◌, eqb, length, get_or, take, Option, None, Some}
+use Rattle.std.specs.Option.{unwrap_or}
 use Rattle.answer.specs.Answer.{Answer, refused, given, first_of, and_then}
 use Rattle.group.specs.declared.Offset.{Offset}
 use Rattle.group.specs.declared.Offset.TheVariants.{East, West}
 use Rattle.programmes.specs.declared.Finish.{Finish}
 use Rattle.programmes.specs.declared.Finish.TheVariants as finish
-use Rattle.programmes.specs.declared.Series.{Series}
-use Rattle.programmes.specs.declared.Series.TheVariants as series
 use Rattle.programmes.specs.declared.Programme.{Programme}
-use Rattle.programmes.specs.declared.pil.Pil.{Pil}
-use Rattle.programmes.specs.declared.pil.Pil.TheVariants.{NoPil, Label}
 use Rattle.answer.specs.Lists.{filled}
 use Rattle.programmes.specs.Page.{reading_of, blank, most}
 use Rattle.programmes.specs.Timer.{pil_of}
@@ -44,13 +41,13 @@ quarters (West n) = n
 abbrev pub flag : Bool → ℕ
 flag b = cond b 1 0
 
-abbrev pub in_series : Series → ℕ
-in_series series.Absent = 0
-in_series (series.Code k) = 1
+abbrev pub in_series : Option ℕ → ℕ
+in_series None = 0
+in_series (Some k) = 1
 
-abbrev pub series_code : Series → ℕ
-series_code series.Absent = 0
-series_code (series.Code k) = k
+abbrev pub series_code : Option ℕ → ℕ
+series_code None = 0
+series_code (Some k) = k
 
 -- what is absent is 0
 unfoldable pub programme_bytes : Programme → List ℕ
@@ -68,8 +65,8 @@ finish_by kind h m = cond (eqb kind 0) finish.Absent (cond (eqb kind 1) (finish.
 abbrev pub offset_by : ℕ → ℕ → Offset
 offset_by s n = cond (eqb s 0) (East n) (West n)
 
-abbrev pub series_by : ℕ → ℕ → Series
-series_by s k = cond (eqb s 0) series.Absent (series.Code k)
+abbrev pub series_by : ℕ → ℕ → Option ℕ
+series_by s k = cond (eqb s 0) None (Some k)
 
 -- the programme whose sixteen bytes begin at a place
 unfoldable pub programme_at : List ℕ → ℕ → Programme
@@ -135,9 +132,8 @@ abbrev pub bytes_left : Answer Wrote → Answer (List ℕ)
 bytes_left a = and_then a (λ w. given w.bytes)
 
 -- 2 ^ 20, which is no PIL, where there is none
-abbrev pub pil_number : Pil → ℕ
-pil_number NoPil = 1048576
-pil_number (Label pil) = pil
+abbrev pub pil_number : Option ℕ → ℕ
+pil_number p = unwrap_or p 1048576
 
 unfoldable pub pil_from : List ℕ → Answer ℕ
 pil_from f = and_then (room_of 16 f) (λ g. given (pil_number (pil_of (programme_at g 0))))

@@ -6,25 +6,21 @@ ghost use Rattle.answer.specs.Answer.{number, after};
 ghost use Rattle.fields.specs.Fields.{bytes_of, programmes_to, plain, page_into, page_from, packets_told, bytes_left, pil_from};
 ghost use Rattle.fields.specs.Laws.{Laws};
 
-use programmes::pil::Pil;
-use programmes::{Page, Programme, Written};
+use programmes::pil::pil_of;
+use programmes::{Page, Programme};
 
 mod programme; // one programme's sixteen bytes
 
 // The answer where lent bytes are more or fewer than those asked for: no number of the paper.
 const WRONG_ROOM: u8 = 255;
 
-fn fill(count: usize, programmes: [Programme; 103], out: &mut [u8])
-    requires { (length out.old ≡ 1649) × (count ≤ 103) }
-    ensures { out.new ≡ count ∷ bytes_of programmes }
+fn fill(page: Page, out: &mut [u8])
+    requires { (length out.old ≡ 1649) × (page.count ≤ 103) }
+    ensures { out.new ≡ page.count ∷ bytes_of page.programmes }
 {
-    out[0] = count as u8;
-    let mut i: usize = 0;
-    while i < 103 {
-        let q = programmes[i];
-        let bytes = programme::bytes_of(q);
-        programme::put(out, 1 + 16 * i, bytes);
-        i += 1;
+    out[0] = page.count as u8;
+    for (i, q) in page.programmes.iter().enumerate() {
+        programme::put(out, 1 + 16 * i, programme::bytes_of(*q));
     }
 }
 
@@ -37,31 +33,22 @@ pub fn read_into(page: &[u8], out: &mut [u8]) -> u8
     if out.len() != 1649 {
         return WRONG_ROOM;
     }
-    let r = preselection::read(page);
-    let verdict = r.verdict;
-    let n = verdict.number();
-    if n != 0 {
-        return n;
+    match preselection::read(page) {
+        Ok(read) => {
+            fill(read, out);
+            0
+        }
+        Err(refusal) => refusal.number(),
     }
-    let got = r.page;
-    let count = got.count;
-    let programmes = got.programmes;
-    fill(count, programmes, out);
-    0
 }
 
-// Every place is stored anew, so that any programme may stand there first.
 fn page_of(f: &[u8]) -> Page
     requires { length f.now ≡ 1650 }
     ensures { (result.count ≡ get_or f.now 1 0) × (result.programmes ≡ programmes_to f.now 103) }
 {
-    let first = programme::programme_at(f, 2);
-    let mut programmes = [first; 103];
-    let mut i: usize = 0;
-    while i < 103 {
-        let q = programme::programme_at(f, 2 + 16 * i);
-        programmes[i] = q;
-        i += 1;
+    let mut programmes = [Programme::blank(); 103];
+    for (i, q) in programmes.iter_mut().enumerate() {
+        *q = programme::programme_at(f, 2 + 16 * i);
     }
     Page {
         count: f[1] as usize,
@@ -79,11 +66,9 @@ pub fn write_from(fields: &[u8], buf: &mut [u8]) -> u16
         return WRONG_ROOM as u16 * 256;
     }
     let page = page_of(fields);
-    let w = preselection::write(fields[0], page, buf);
-    match w {
-        Written::WrongLength => 5120,
-        Written::OutOfRange => 4864,
-        Written::Packets(n) => n as u16,
+    match preselection::write(fields[0], page, buf) {
+        Ok(packets) => packets as u16,
+        Err(refusal) => refusal.number() as u16 * 256,
     }
 }
 
@@ -95,12 +80,7 @@ pub fn pil_from(fields: &[u8]) -> u32
     if fields.len() != 16 {
         return WRONG_ROOM as u32 * 16777216;
     }
-    let q = programme::programme_at(fields, 0);
-    let p = programmes::pil::pil_of(q);
-    match p {
-        Pil::NoPil => 1048576,
-        Pil::Label(pil) => pil,
-    }
+    pil_of(programme::programme_at(fields, 0)).unwrap_or(1048576)
 }
 
 // The laws of these calls, as a promise of the crate.

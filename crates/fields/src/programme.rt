@@ -1,11 +1,11 @@
 // One programme's sixteen bytes: of a programme, stored, and taken as one.
 ghost use Rattle.std.specs.Prelude.{◌+◌, ◌≤◌, ◌≡◌, length};
 ghost use Rattle.std.proofs.lemmas.List.Edits.{sets};
-ghost use Rattle.fields.specs.Fields.{finish_kind, finish_hour, finish_minute, side, quarters, flag, in_series, series_code, programme_bytes};
-ghost use Rattle.fields.specs.Fields.{finish_by, offset_by, series_by, programme_at};
+ghost use Rattle.fields.specs.Fields.{finish_kind, finish_hour, finish_minute, side, quarters, programme_bytes};
+ghost use Rattle.fields.specs.Fields.{finish_by, offset_by, programme_at};
 
 use group::Offset;
-use programmes::{Finish, Programme, Series};
+use programmes::{Finish, Programme};
 
 fn finish_kind(f: Finish) -> u8
     ensures { result ≡ finish_kind f }
@@ -22,8 +22,7 @@ fn finish_hour(f: Finish) -> u8
 {
     match f {
         Finish::Absent => 0,
-        Finish::Time(h, _) => h,
-        Finish::Duration(h, _) => h,
+        Finish::Time(h, _) | Finish::Duration(h, _) => h,
     }
 }
 
@@ -32,59 +31,28 @@ fn finish_minute(f: Finish) -> u8
 {
     match f {
         Finish::Absent => 0,
-        Finish::Time(_, m) => m,
-        Finish::Duration(_, m) => m,
+        Finish::Time(_, m) | Finish::Duration(_, m) => m,
     }
 }
 
 fn side(o: Offset) -> u8
     ensures { result ≡ side o }
 {
-    match o {
-        Offset::East(_) => 0,
-        Offset::West(_) => 1,
-    }
+    u8::from(matches!(o, Offset::West(_)))
 }
 
 fn quarters(o: Offset) -> u8
     ensures { result ≡ quarters o }
 {
     match o {
-        Offset::East(n) => n,
-        Offset::West(n) => n,
+        Offset::East(n) | Offset::West(n) => n,
     }
 }
 
-fn flag(b: bool) -> u8
-    ensures { result ≡ flag b }
-{
-    if b { 1 } else { 0 }
-}
-
-fn in_series(s: Series) -> u8
-    ensures { result ≡ in_series s }
-{
-    match s {
-        Series::Absent => 0,
-        Series::Code(_) => 1,
-    }
-}
-
-fn series_code(s: Series) -> u8
-    ensures { result ≡ series_code s }
-{
-    match s {
-        Series::Absent => 0,
-        Series::Code(k) => k,
-    }
-}
-
+#[tactic(auto, unfolding(crate::specs::Fields::programme_bytes))]
 pub(crate) fn bytes_of(q: Programme) -> [u8; 16]
     ensures { result ≡ programme_bytes q }
 {
-    let f = q.finish;
-    let o = q.offset;
-    let s = q.series;
     [
         q.row,
         q.column,
@@ -92,16 +60,16 @@ pub(crate) fn bytes_of(q: Programme) -> [u8; 16]
         q.month,
         q.hour,
         q.minute,
-        finish_kind(f),
-        finish_hour(f),
-        finish_minute(f),
+        finish_kind(q.finish),
+        finish_hour(q.finish),
+        finish_minute(q.finish),
         q.country,
         q.source,
-        side(o),
-        quarters(o),
-        flag(q.controlled),
-        in_series(s),
-        series_code(s),
+        side(q.offset),
+        quarters(q.offset),
+        u8::from(q.controlled),
+        u8::from(q.series.is_some()),
+        q.series.unwrap_or(0),
     ]
 }
 
@@ -109,23 +77,17 @@ pub(crate) fn put(out: &mut [u8], at: usize, bytes: [u8; 16])
     requires { at + 16 ≤ length out.old }
     ensures { out.new ≡ sets out.old at bytes }
 {
-    let mut j: usize = 0;
-    while j < 16 {
-        out[at + j] = bytes[j];
-        j += 1;
-    }
+    out[at..at + 16].copy_from_slice(&bytes);
 }
 
 fn finish_by(kind: u8, h: u8, m: u8) -> Finish
     ensures { result ≡ finish_by kind h m }
 {
-    if kind == 0 {
-        return Finish::Absent;
+    match kind {
+        0 => Finish::Absent,
+        1 => Finish::Time(h, m),
+        _ => Finish::Duration(h, m),
     }
-    if kind == 1 {
-        return Finish::Time(h, m);
-    }
-    Finish::Duration(h, m)
 }
 
 fn offset_by(s: u8, n: u8) -> Offset
@@ -137,22 +99,11 @@ fn offset_by(s: u8, n: u8) -> Offset
     Offset::West(n)
 }
 
-fn series_by(s: u8, k: u8) -> Series
-    ensures { result ≡ series_by s k }
-{
-    if s == 0 {
-        return Series::Absent;
-    }
-    Series::Code(k)
-}
-
+#[tactic(auto, unfolding(crate::specs::Fields::programme_at))]
 pub(crate) fn programme_at(f: &[u8], at: usize) -> Programme
     requires { at + 16 ≤ length f.now }
     ensures { result ≡ programme_at f.now at }
 {
-    let finish = finish_by(f[at + 6], f[at + 7], f[at + 8]);
-    let offset = offset_by(f[at + 11], f[at + 12]);
-    let series = series_by(f[at + 14], f[at + 15]);
     Programme {
         row: f[at],
         column: f[at + 1],
@@ -160,11 +111,11 @@ pub(crate) fn programme_at(f: &[u8], at: usize) -> Programme
         month: f[at + 3],
         hour: f[at + 4],
         minute: f[at + 5],
-        finish,
+        finish: finish_by(f[at + 6], f[at + 7], f[at + 8]),
         country: f[at + 9],
         source: f[at + 10],
-        offset,
+        offset: offset_by(f[at + 11], f[at + 12]),
         controlled: f[at + 13] != 0,
-        series,
+        series: (f[at + 14] != 0).then_some(f[at + 15]),
     }
 }

@@ -39,6 +39,7 @@ pub struct Found {
 }
 
 // What the first n of eleven codes tell after a start.
+#[tactic(auto, unfolding(crate::specs::Taken::found_by, crate::specs::Taken::found_from))]
 pub fn found_in(s: Start, n: usize, codes: [u8; 11]) -> Found
     ensures { result ≡ found_from s n codes }
 {

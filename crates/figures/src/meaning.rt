@@ -1,5 +1,5 @@
 // What a format's figures mean, and whether they are permitted.
-ghost use Rattle.std.specs.Prelude.{◌≡◌, ◌+◌, ◌*◌};
+ghost use Rattle.std.specs.Prelude.{◌≡◌, ◌≤◌, ◌+◌, ◌*◌};
 ghost use Rattle.codes.specs.Codes.{figure};
 ghost use Rattle.formats.specs.Formats.{pattern, figures_by};
 ghost use Rattle.formats.specs.Taken.{own_codes};
@@ -10,16 +10,13 @@ use crate::{Offset, Value};
 use codes::figure;
 use formats::Kind;
 
-fn two(c: u8, d: u8) -> u8
-    ensures { result ≡ figure c * 10 + figure d }
+// Two figures, in decimal or in hexadecimal.
+#[tactic(auto, using(crate::proofs::Facts::two_small))]
+fn two(base: u8, c: u8, d: u8) -> u8
+    requires { base ≤ 16 }
+    ensures { result ≡ figure c * base + figure d }
 {
-    figure(c) * 10 + figure(d)
-}
-
-fn two_hexadecimal(c: u8, d: u8) -> u8
-    ensures { result ≡ figure c * 16 + figure d }
-{
-    figure(c) * 16 + figure(d)
+    figure(c) * base + figure(d)
 }
 
 fn is_time(hour: u8, minute: u8) -> bool
@@ -40,13 +37,11 @@ fn february(year: u8) -> u8
 fn days_in(month: u8, year: u8) -> u8
     ensures { result ≡ days_in month year }
 {
-    if month == 2 {
-        return february(year);
+    match month {
+        2 => february(year),
+        4 | 6 | 9 | 11 => 30,
+        _ => 31,
     }
-    if (month == 4) | ((month == 6) | ((month == 9) | (month == 11))) {
-        return 30;
-    }
-    31
 }
 
 fn single(hour: u8, minute: u8) -> Value
@@ -80,8 +75,7 @@ fn original(hour: u8, minute: u8) -> Value
 fn date(day: u8, month: u8, year: u8) -> Value
     ensures { result ≡ date_by day month year }
 {
-    let days = days_in(month, year);
-    if ((1 <= month) & (month <= 12)) & ((1 <= day) & (day <= days)) {
+    if matches!(month, 1..=12) & (1 <= day) & (day <= days_in(month, year)) {
         return Value::Date(day, month, year);
     }
     Value::Wrong
@@ -117,29 +111,25 @@ fn pty(code: u8) -> Value
     Value::Pty(code)
 }
 
+#[tactic(auto, using(formats::proofs::Facts::eleven), unfolding(crate::specs::Permitted::permitted, crate::specs::Permitted::value_of))]
 pub(crate) fn value_of(kind: Kind, c: [u8; 11]) -> Value
     ensures { result ≡ value_of kind (figures_by (pattern kind) (own_codes kind c)) }
 {
-    let c0 = c[0];
-    let c1 = c[1];
-    let c2 = c[2];
-    let c3 = c[3];
-    let c4 = c[4];
-    let c5 = c[5];
-    let c6 = c[6];
-    let c7 = c[7];
-    let c8 = c[8];
-    let c9 = c[9];
-    let c10 = c[10];
+    let [c0, c1, c2, c3, c4, c5, c6, c7, c8, c9, c10] = c;
     match kind {
         Kind::Text => Value::Text,
-        Kind::Single => single(two(c0, c1), two(c3, c4)),
-        Kind::Double => double(two(c0, c1), two(c3, c4), two(c6, c7), two(c9, c10)),
-        Kind::Original => original(two(c0, c1), two(c2, c3)),
-        Kind::Date => date(two(c0, c1), two(c2, c3), two(c4, c5)),
-        Kind::Network => network(two_hexadecimal(c0, c1), figure(c2), two(c3, c4)),
-        Kind::Offset => offset(figure(c0), two(c1, c2)),
-        Kind::Pty => pty(two_hexadecimal(c1, c2)),
-        Kind::Word => Value::Word(two_hexadecimal(c0, c1)),
+        Kind::Single => single(two(10, c0, c1), two(10, c3, c4)),
+        Kind::Double => double(
+            two(10, c0, c1),
+            two(10, c3, c4),
+            two(10, c6, c7),
+            two(10, c9, c10),
+        ),
+        Kind::Original => original(two(10, c0, c1), two(10, c2, c3)),
+        Kind::Date => date(two(10, c0, c1), two(10, c2, c3), two(10, c4, c5)),
+        Kind::Network => network(two(16, c0, c1), figure(c2), two(10, c3, c4)),
+        Kind::Offset => offset(figure(c0), two(10, c1, c2)),
+        Kind::Pty => pty(two(16, c1, c2)),
+        Kind::Word => Value::Word(two(16, c0, c1)),
     }
 }

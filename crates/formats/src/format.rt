@@ -22,30 +22,20 @@ fn hh(c: u8, d: u8) -> bool
 pub(crate) fn shown(kind: Kind, c: [u8; 11]) -> bool
     ensures { result ≡ fits (pattern kind) (own_codes kind c) }
 {
-    let c0 = c[0];
-    let c1 = c[1];
-    let c2 = c[2];
-    let c3 = c[3];
-    let c4 = c[4];
-    let c5 = c[5];
-    let c6 = c[6];
-    let c7 = c[7];
-    let c8 = c[8];
-    let c9 = c[9];
-    let c10 = c[10];
+    let [c0, c1, c2, c3, c4, c5, c6, c7, c8, c9, c10] = c;
     match kind {
         Kind::Text => true,
-        Kind::Single => zz(c0, c1) & ((c2 == 46) & zz(c3, c4)),
+        Kind::Single => zz(c0, c1) & ((c2 == b'.') & zz(c3, c4)),
         Kind::Double => {
-            let start = zz(c0, c1) & ((c2 == 46) & zz(c3, c4));
-            let finish = zz(c6, c7) & ((c8 == 46) & zz(c9, c10));
-            start & ((c5 == 45) & finish)
+            let start = zz(c0, c1) & ((c2 == b'.') & zz(c3, c4));
+            let finish = zz(c6, c7) & ((c8 == b'.') & zz(c9, c10));
+            start & ((c5 == b'-') & finish)
         }
         Kind::Original => zz(c0, c1) & zz(c2, c3),
         Kind::Date => zz(c0, c1) & (zz(c2, c3) & zz(c4, c5)),
         Kind::Network => hh(c0, c1) & (is_decimal(c2) & zz(c3, c4)),
-        Kind::Offset => ((c0 == 48) | (c0 == 57)) & zz(c1, c2),
-        Kind::Pty => (c0 == 70) & hh(c1, c2),
+        Kind::Offset => matches!(c0, b'0' | b'9') & zz(c1, c2),
+        Kind::Pty => (c0 == b'F') & hh(c1, c2),
         Kind::Word => hh(c0, c1),
     }
 }
@@ -53,43 +43,33 @@ pub(crate) fn shown(kind: Kind, c: [u8; 11]) -> bool
 fn either_by(n: usize) -> Kind
     ensures { result ≡ either_by n }
 {
-    if n == 4 {
-        return Kind::Original;
+    match n {
+        4 => Kind::Original,
+        6 => Kind::Date,
+        _ => Kind::Text,
     }
-    if n == 6 {
-        return Kind::Date;
-    }
-    Kind::Text
 }
 
 fn hidden_by(n: usize, c: u8) -> Kind
     ensures { result ≡ hidden_by n c }
 {
-    if n == 2 {
-        return Kind::Word;
+    match n {
+        2 => Kind::Word,
+        3 if c == b'F' => Kind::Pty,
+        3 => Kind::Offset,
+        5 => Kind::Network,
+        _ => either_by(n),
     }
-    if n == 3 {
-        if c == 70 {
-            return Kind::Pty;
-        }
-        return Kind::Offset;
-    }
-    if n == 5 {
-        return Kind::Network;
-    }
-    either_by(n)
 }
 
 fn coloured_by(n: usize) -> Kind
     ensures { result ≡ coloured_by n }
 {
-    if n == 5 {
-        return Kind::Single;
+    match n {
+        5 => Kind::Single,
+        11 => Kind::Double,
+        _ => Kind::Text,
     }
-    if n == 11 {
-        return Kind::Double;
-    }
-    Kind::Text
 }
 
 fn plain_by(n: usize) -> Kind

@@ -3,12 +3,11 @@
 
 ghost use Rattle.std.specs.Prelude.{true, ◌≡◌, ◌<◌};
 ghost use Rattle.group.specs.Group.{row_of, decimal, offset_of, group_of};
-ghost use Rattle.group.specs.Group.{source_by, date_by, offset_by, start_by, minutes_by, finish_by, series_by, end_by};
 ghost use Rattle.group.specs.Group.{address_of, figures, flagged, offset_bits, joined, bits_of};
 ghost use Rattle.group.specs.Laws.{Laws};
 
 // Quarter hours east or west of Greenwich.
-#[derive(Clone, Copy)]
+#[derive(Clone, Copy, PartialEq, Eq)]
 pub enum Offset {
     East(u8),
     West(u8),
@@ -35,37 +34,13 @@ fn row_of(a: u8) -> u8
     if a == 40 {
         return 24;
     }
-    if a < 40 {
-        return 0;
-    }
-    a - 40
+    a.saturating_sub(40)
 }
 
 fn decimal(b: u8) -> u8
     ensures { result ≡ decimal b }
 {
     b / 16 * 10 + b % 16
-}
-
-fn source(a: u8, b: u8) -> Group
-    ensures { result ≡ source_by a b }
-{
-    if a < 48 {
-        return Group::Other;
-    }
-    Group::Source(a - 48, b)
-}
-
-fn date(a: u8, b: u8) -> Group
-    ensures { result ≡ date_by a b }
-{
-    if a < 48 {
-        return Group::Other;
-    }
-    if 63 < b {
-        return Group::Other;
-    }
-    Group::Date(a - 48, decimal(b))
 }
 
 // 'Minus 0 quarter hours is 0.'
@@ -79,76 +54,22 @@ fn offset_of(b: u8) -> Offset
     Offset::East(quarters)
 }
 
-fn offset_group(a: u8, b: u8) -> Group
-    ensures { result ≡ offset_by a b }
-{
-    if a < 40 {
-        return Group::Other;
-    }
-    let o = offset_of(b);
-    Group::Offset(row_of(a), o)
-}
-
-fn start(a: u8, b: u8) -> Group
-    ensures { result ≡ start_by a b }
-{
-    if a < 40 {
-        return Group::Other;
-    }
-    Group::Start(row_of(a), decimal(b % 64), 63 < b)
-}
-
-fn minutes(a: u8, b: u8) -> Group
-    ensures { result ≡ minutes_by a b }
-{
-    if 39 < a {
-        return Group::Other;
-    }
-    Group::Minutes(a, decimal(b))
-}
-
-fn finish(a: u8, b: u8) -> Group
-    ensures { result ≡ finish_by a b }
-{
-    if a < 40 {
-        return Group::Other;
-    }
-    Group::Finish(row_of(a), decimal(b % 64), 63 < b)
-}
-
-fn series(a: u8, b: u8) -> Group
-    ensures { result ≡ series_by a b }
-{
-    if a == 48 {
-        return Group::Series(b);
-    }
-    Group::Other
-}
-
-fn end(a: u8) -> Group
-    ensures { result ≡ end_by a }
-{
-    if a == 63 {
-        return Group::Terminator;
-    }
-    Group::Other
-}
-
 // By the mode, and by what the clause fixes in the data words.
+#[tactic(auto, unfolding(crate::specs::Group::group_of))]
 pub fn group_of(v: u32) -> Group
     ensures { result ≡ group_of v }
 {
     let a = (v % 64) as u8;
     let b = (v / 2048 % 128) as u8;
     match v / 64 % 32 {
-        0b01000 => source(a, b),
-        0b01001 => date(a, b),
-        0b01100 => offset_group(a, b),
-        0b01010 => start(a, b),
-        0b00110 => minutes(a, b),
-        0b01011 => finish(a, b),
-        0b01101 => series(a, b),
-        0b11111 => end(a),
+        0b01000 if 48 <= a => Group::Source(a - 48, b),
+        0b01001 if 48 <= a && b < 64 => Group::Date(a - 48, decimal(b)),
+        0b01100 if 40 <= a => Group::Offset(row_of(a), offset_of(b)),
+        0b01010 if 40 <= a => Group::Start(row_of(a), decimal(b % 64), 63 < b),
+        0b00110 if a < 40 => Group::Minutes(a, decimal(b)),
+        0b01011 if 40 <= a => Group::Finish(row_of(a), decimal(b % 64), 63 < b),
+        0b01101 if a == 48 => Group::Series(b),
+        0b11111 if a == 63 => Group::Terminator,
         _ => Group::Other,
     }
 }
@@ -181,10 +102,7 @@ fn flagged(low: u32, flag: bool) -> u32
     requires { low < 512 }
     ensures { (result ≡ flagged low flag) × (result < 1024) }
 {
-    if flag {
-        return low + 64;
-    }
-    low
+    low + 64 * u32::from(flag)
 }
 
 fn offset_bits(o: Offset) -> u32
@@ -205,6 +123,7 @@ fn hours(row: u8, mode: u32, hour: u8, flag: bool) -> u32
 }
 
 // The eighteen bits of a group whose numbers fit them; what is no group is sent as 0, which is none either.
+#[tactic(auto, unfolding(crate::specs::Group::bits_of))]
 pub fn bits_of(g: Group) -> u32
     ensures { result ≡ bits_of g }
 {

@@ -1,22 +1,19 @@
 -- The laws of the Hamming byte.
-use mathlib.Core.Path.{◌≡◌, refl}
+use Rattle.std.proofs.Common.{◌≡◌, refl, ℕ, ◌%◌, Option, Some, None}
 use Rattle.answer.specs.Answer.{Answer, refused, given}
 use Rattle.hamming.specs.Byte.{good, nibble_of, coded_answer, coding_of}
 use Rattle.hamming.specs.Laws.{Laws}
-use Rattle.hamming.specs.declared.Coded.{Coded}
-use Rattle.hamming.specs.declared.Coded.TheVariants.{TooWide, Byte}
-use Prim.Native.Nat.{ℕ, ◌%◌}
 use Rattle.answer.proofs.Answers.{equation, numbered}
 use Rattle.hamming.proofs.Nearest.{no_nearer, reached, only_clean, only_mended}
 use Rattle.hamming.proofs.Bytes.{equations, far, one_near, near_clean, near_mended, two, sent, clean_good}
 
-abbrev coded : Answer ℕ → Coded
-coded (refused n) = TooWide
-coded (given b) = Byte b
+abbrev coded : Answer ℕ → Option ℕ
+coded (refused n) = None
+coded (given b) = Some b
 
-coded_back : (r : Coded) → coded (coded_answer r) ≡ r
-coded_back TooWide = refl
-coded_back (Byte b) = refl
+coded_back : (r : Option ℕ) → coded (coded_answer r) ≡ r
+coded_back None = refl
+coded_back (Some b) = refl
 
 pub laws : Laws
 laws = record {

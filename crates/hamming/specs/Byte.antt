@@ -1,10 +1,8 @@
 -- The Hamming 8/4 byte (document 01, 'Packet layout'; 02, #102). Bit 1 of a byte is its lowest.
-use Rattle.std.specs.Prelude.{ℕ, zero, suc, ◌+◌, ◌-◌, ◌*◌, ◌/◌, ◌%◌, ◌^◌, min, cond, List, [], ◌∷◌, map, ltb, eqb}
+use Rattle.std.specs.Prelude.{ℕ, zero, suc, ◌+◌, ◌-◌, ◌*◌, ◌/◌, ◌%◌, ◌^◌, min, cond, List, [], ◌∷◌, map, ltb, eqb, Option, Some, None}
 use Rattle.answer.specs.Answer.{Answer, refused, given, first_of}
 use Rattle.hamming.specs.declared.Nibble.{Nibble}
 use Rattle.hamming.specs.declared.Nibble.TheVariants.{Damaged, Clean, Mended}
-use Rattle.hamming.specs.declared.Coded.{Coded}
-use Rattle.hamming.specs.declared.Coded.TheVariants.{TooWide, Byte}
 
 -- data bit D1 to D4 of a value, 'with D1 lowest'
 unfoldable pub D : ℕ → ℕ → ℕ
@@ -64,9 +62,9 @@ unfoldable pub nibble_of : ℕ → Nibble
 nibble_of b = cond (eqb (away b) 0) (Clean (nearest b)) (cond (eqb (away b) 1) (Mended (nearest b)) Damaged)
 
 -- the paper's number of a value that is wider than its four bits
-abbrev pub coded_answer : Coded → Answer ℕ
-coded_answer TooWide = refused 16
-coded_answer (Byte b) = given b
+abbrev pub coded_answer : Option ℕ → Answer ℕ
+coded_answer None = refused 16
+coded_answer (Some b) = given b
 
 -- what a value is sent as
 unfoldable pub coding_of : ℕ → Answer ℕ

@@ -14,12 +14,6 @@ pub enum Nibble {
     Mended(u8),
 }
 
-#[derive(Clone, Copy)]
-pub enum Coded {
-    TooWide,
-    Byte(u8),
-}
-
 // The bits of a byte, the lowest first: P1 D1 P2 D2 P3 D3 P4 D4.
 const P1: u8 = 0x01;
 
@@ -54,7 +48,7 @@ const CHECK_4: u8 = P1 | D1 | P2 | D2 | P3 | D3 | P4 | D4;
 fn even(b: u8, mask: u8) -> u8
     ensures { result ≡ (1 + ones (bit_and b mask)) % 2 }
 {
-    ((1 + u8::count_ones(b & mask)) % 2) as u8
+    ((1 + (b & mask).count_ones()) % 2) as u8
 }
 
 // The good byte of the lowest four bits of v.
@@ -92,7 +86,7 @@ fn wrong_bit(failing: u8) -> u8
         4 => P3,
         5 => D3,
         6 => D2,
-        7..=255 => D1,
+        _ => D1,
     }
 }
 
@@ -104,24 +98,23 @@ pub fn decode(b: u8) -> Nibble
     let overall = even(b, CHECK_4);
     if overall == 0 {
         if failing == 0 {
-            let v = data_bits(b);
-            return Nibble::Clean(v);
+            return Nibble::Clean(data_bits(b));
         }
         return Nibble::Damaged;
     }
     let wrong = wrong_bit(failing);
-    let v = data_bits(b ^ wrong);
-    Nibble::Mended(v)
+    Nibble::Mended(data_bits(b ^ wrong))
 }
 
-pub fn encode(v: u8) -> Coded
+// None is refusal 16: a value that is wider than its four bits.
+#[tactic(auto, unfolding(crate::specs::Byte::coding_of))]
+pub fn encode(v: u8) -> Option<u8>
     ensures { coded_answer result ≡ coding_of v }
 {
     if 15 < v {
-        return Coded::TooWide;
+        return None;
     }
-    let g = good_byte(v);
-    Coded::Byte(g)
+    Some(good_byte(v))
 }
 
 // The laws of the byte, as a promise of the crate.

@@ -17,11 +17,8 @@ pub fn deciding() -> usize
 pub fn still_deciding(left: usize, got: usize, settled: bool) -> usize
     ensures { result ≡ deciding_after left got settled }
 {
-    if settled | (got == 0) {
+    if settled || got == 0 {
         return 0;
     }
-    if left < got {
-        return 0;
-    }
-    left - got
+    left.saturating_sub(got)
 }

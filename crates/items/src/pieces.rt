@@ -1,21 +1,10 @@
 // Bytes taken up to the end of an item.
-ghost use Rattle.std.specs.Prelude.{◌≡◌, drop, set};
+ghost use Rattle.std.specs.Prelude.{◌≡◌, drop};
 ghost use Rattle.items.specs.Pieces.{unsplit, taken_from, whole_at, left_over};
 
 use crate::stages::{found_at, is_left_over, last_place, may_end, stage_after};
 use crate::{Found, Split, Stage, Taken};
-
-// A byte past the last place is not held: no sheet that is split from the start comes to that.
-fn hold(held: [u8; 47], have: usize, b: u8) -> [u8; 47]
-    ensures { result ≡ set held have b }
-{
-    if have < 47 {
-        let mut out = held;
-        out[have] = b;
-        return out;
-    }
-    held
-}
+use answer::put;
 
 impl Split {
     pub fn new() -> Split
@@ -33,33 +22,32 @@ impl Split {
         ensures value { result ≡ taken_from (drop from piece.now) from self }
         ensures piece_value { piece.exit.now ≡ piece.entry.now }
     {
-        let stage = self.stage;
-        let last = last_place(stage);
+        let last = last_place(self.stage);
         let mut have = self.have;
         let mut held = self.held;
         let mut at = from;
-        while at < piece.len() {
-            let b = piece[at];
+        // By its place, and no `for`: the place is answered, and may lie past the piece already.
+        while let Some(&b) = piece.get(at) {
             at += 1;
             if last <= have {
-                let item = hold(held, have, b);
+                // A byte past the last place is not held: no sheet that is split from the start comes to that.
+                let item = put(held, have, b);
                 let split = Split {
-                    stage: stage_after(stage, item),
+                    stage: stage_after(self.stage, item),
                     have: 0,
                     held: item,
                 };
                 return Taken {
                     split,
                     at,
-                    found: found_at(stage),
+                    found: found_at(self.stage),
                 };
             }
             held[have] = b;
             have += 1;
         }
-        let split = Split { stage, have, held };
         Taken {
-            split,
+            split: Split { have, held, ..self },
             at,
             found: Found::Nothing,
         }
@@ -69,18 +57,13 @@ impl Split {
     pub fn whole(self, ended: bool) -> bool
         ensures { result ≡ whole_at ended self }
     {
-        if ended {
-            let stage = self.stage;
-            return may_end(stage);
-        }
-        false
+        ended && may_end(self.stage)
     }
 
     // Whether a byte is left over. Whatever follows, the input is then not whole and holds no item more (law `settled`).
     pub fn left_over(self) -> bool
         ensures { result ≡ left_over self.stage }
     {
-        let stage = self.stage;
-        is_left_over(stage)
+        is_left_over(self.stage)
     }
 }

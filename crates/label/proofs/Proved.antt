@@ -11,7 +11,7 @@ use Rattle.answer.proofs.Answers.{equation}
 use Rattle.label.specs.declared.pil.Service.TheVariants.{Programme}
 use Rattle.hamming.specs.Byte.{D}
 use Rattle.label.specs.Layout.{number_from}
-use Rattle.label.specs.Packet.{refusal_number, written_number}
+use Rattle.label.specs.Packet.{refusal_number, write_refusal_number, written_number}
 use Rattle.label.specs.Pil.{twenty_bits, day_of, month_of, hour_of, minute_of, parts_of, service_at, no_specific_value, service_of}
 use Rattle.label.specs.Laws.{Laws}
 use Rattle.label.proofs.Round.{back, right, kept}
@@ -74,6 +74,7 @@ laws = record {
   programme = programme;
   turned_unique = λ v r s p q. equation (number_from 0 (D 1 v ∷ D 2 v ∷ D 3 v ∷ D 4 v ∷ [])) r s p.0 q.0;
   refusal_number_unique = λ r. equation (refusal_number r);
+  write_refusal_number_unique = λ r. equation (write_refusal_number r);
   written_number_unique = λ w. equation (written_number w);
   parts_unique = λ pil. equation (parts_of pil);
   service_unique = λ pil. equation (service_of pil);

@@ -1,15 +1,15 @@
 -- What is claimed of packet and PIL. Proved in proofs/Proved.antt.
-use Rattle.std.specs.Prelude.{ℕ, ◌≤◌, ◌<◌, ◌≡◌, Bool, true, false, cond, not, List, [], ◌∷◌, eqb, ltb, length, get_or}
+use Rattle.std.specs.Prelude.{ℕ, ◌≤◌, ◌<◌, ◌≡◌, Bool, true, false, cond, not, List, [], ◌∷◌, eqb, ltb, length, get_or, Result}
 use Rattle.answer.specs.Answer.{Answer, refused, given, and_then, Unique}
 use Rattle.answer.specs.Lists.{member, count}
 use Rattle.hamming.specs.Byte.{D, good, distance}
 use Rattle.label.specs.declared.Label.{Label}
 use Rattle.label.specs.declared.Received.{Received}
 use Rattle.label.specs.declared.Refusal.{Refusal}
-use Rattle.label.specs.declared.Written.{Written}
+use Rattle.label.specs.declared.WriteRefusal.{WriteRefusal}
 use Rattle.label.specs.declared.pil.Service.TheVariants.{Programme, TimerControl, InhibitTerminate, Interruption, Continuation, NoSpecificValue}
 use Rattle.label.specs.Layout.{number_from}
-use Rattle.label.specs.Packet.{refusal_number, reading_of, reception_of, written_number, writing_of, put, put_right, value_at, hamming_bytes}
+use Rattle.label.specs.Packet.{refusal_number, reading_of, reception_of, write_refusal_number, written_number, writing_of, put, put_right, value_at, hamming_bytes}
 use Rattle.label.specs.Pil.{parts_of, service_of}
 
 -- something holds at each of the sixteen bytes
@@ -91,6 +91,7 @@ pub record Laws : Type 0 where
   -- each call's promise allows one outcome
   pub turned_unique : (v : ℕ) → Unique (λ r. (r ≡ number_from 0 (D 1 v ∷ D 2 v ∷ D 3 v ∷ D 4 v ∷ [])) × (r < 16))
   pub refusal_number_unique : (r : Refusal) → Unique (λ n. n ≡ refusal_number r)
-  pub written_number_unique : (w : Written) → Unique (λ n. n ≡ written_number w)
+  pub write_refusal_number_unique : (r : WriteRefusal) → Unique (λ n. n ≡ write_refusal_number r)
+  pub written_number_unique : (w : Result (Unit {0}) WriteRefusal) → Unique (λ n. n ≡ written_number w)
   pub parts_unique : (pil : ℕ) → Unique (λ r. r ≡ parts_of pil)
   pub service_unique : (pil : ℕ) → Unique (λ r. r ≡ service_of pil)

@@ -1,5 +1,5 @@
 -- Packet 8/30 format 2 (document 01, 'Packet layout' and the table of refusals; 02, #102): what the reader gives, and what the writer leaves.
-use Rattle.std.specs.Prelude.{ℕ, ◌^◌, Bool, true, false, cond, not, ◌&&◌, ◌||◌, List, [], ◌∷◌, leb, eqb, length, get_or, set}
+use Rattle.std.specs.Prelude.{ℕ, ◌^◌, Bool, true, false, cond, not, ◌&&◌, ◌||◌, List, [], ◌∷◌, leb, eqb, length, get_or, set, Result, Ok, Err}
 use Rattle.answer.specs.Answer.{Answer, refused, given, Row, first_of}
 use Rattle.answer.specs.Lists.{some, count}
 use Rattle.hamming.specs.Byte.{good, away, nibble_of}
@@ -9,10 +9,8 @@ use Rattle.label.specs.declared.Label.{Label}
 use Rattle.label.specs.declared.Received.{Received}
 use Rattle.label.specs.declared.Refusal.{Refusal}
 use Rattle.label.specs.declared.Refusal.TheVariants.{Length, AddressDamaged, OtherPacket, DesignationDamaged, OtherDesignation, LabelDamaged}
-use Rattle.label.specs.declared.Reading.{Reading}
-use Rattle.label.specs.declared.Reading.TheVariants.{Refused, Read}
-use Rattle.label.specs.declared.Written.{Written}
-use Rattle.label.specs.declared.Written.TheVariants.{WrongLength, TooWide, Done}
+use Rattle.label.specs.declared.WriteRefusal.{WriteRefusal}
+use Rattle.label.specs.declared.WriteRefusal.TheVariants.{WrongLength, TooWide}
 use Rattle.label.specs.Layout.{Field, fields, positions, field_of, label_by, field_by, sent_in}
 
 -- ── the bytes ──────────────────────────────────────────────────────────────────────────────────────────────────────
@@ -88,9 +86,9 @@ refusal_number DesignationDamaged = 4
 refusal_number OtherDesignation = 5
 refusal_number LabelDamaged = 6
 
-abbrev pub reading_answer : Reading → Answer Received
-reading_answer (Refused r) = refused (refusal_number r)
-reading_answer (Read r) = given r
+abbrev pub reading_answer : Result Received Refusal → Answer Received
+reading_answer (Err r) = refused (refusal_number r)
+reading_answer (Ok r) = given r
 
 -- ── the writer ─────────────────────────────────────────────────────────────────────────────────────────────────────
 abbrev pub too_wide : Label → Field → Bool
@@ -125,7 +123,10 @@ unfoldable pub writing_of : Label → List ℕ → Answer (List ℕ)
 writing_of l p = first_of (writer_rows l p) (put (byte_for l) hamming_bytes p)
 
 -- the paper's numbers, and 0 for what is written
-abbrev pub written_number : Written → ℕ
-written_number WrongLength = 1
-written_number TooWide = 16
-written_number Done = 0
+abbrev pub write_refusal_number : WriteRefusal → ℕ
+write_refusal_number WrongLength = 1
+write_refusal_number TooWide = 16
+
+abbrev pub written_number : Result (Unit {0}) WriteRefusal → ℕ
+written_number (Err r) = write_refusal_number r
+written_number (Ok done) = 0

@@ -3,7 +3,7 @@
 
 ghost use Rattle.std.specs.Prelude.{◌≡◌, true};
 ghost use Rattle.label.specs.Laws.{Laws};
-ghost use Rattle.label.specs.Packet.{refusal_number, written_number};
+ghost use Rattle.label.specs.Packet.{refusal_number, write_refusal_number, written_number};
 
 pub mod nibble; // its bits in the order in which they are sent
 pub mod pil; // the parts of a PIL, and the service codes
@@ -23,7 +23,7 @@ pub struct Label {
 }
 
 // Why a packet is not read: refusals 1 to 6.
-#[derive(Clone, Copy)]
+#[derive(Clone, Copy, PartialEq, Eq)]
 pub enum Refusal {
     Length,
     AddressDamaged,
@@ -56,30 +56,32 @@ pub struct Received {
     pub mended: u8,
 }
 
-#[derive(Clone, Copy)]
-pub enum Reading {
-    Refused(Refusal),
-    Read(Received),
-}
-
-// What became of a label to be written: refusals 1 and 16, or the bytes.
-#[derive(Clone, Copy)]
-pub enum Written {
+// Why a label is not written: refusals 1 and 16.
+#[derive(Clone, Copy, PartialEq, Eq)]
+pub enum WriteRefusal {
     WrongLength,
     TooWide,
-    Done,
 }
 
-impl Written {
-    // The paper's number, or 0.
+impl WriteRefusal {
+    // The paper's number.
     pub fn number(self) -> u8
-        ensures { result ≡ written_number self }
+        ensures { result ≡ write_refusal_number self }
     {
         match self {
-            Written::WrongLength => 1,
-            Written::TooWide => 16,
-            Written::Done => 0,
+            WriteRefusal::WrongLength => 1,
+            WriteRefusal::TooWide => 16,
         }
+    }
+}
+
+// The paper's number of what became of a label to be written, or 0.
+pub fn written_number(written: Result<(), WriteRefusal>) -> u8
+    ensures { result ≡ written_number written }
+{
+    match written {
+        Ok(()) => 0,
+        Err(refusal) => refusal.number(),
     }
 }
 

@@ -36,16 +36,16 @@ fn service_at(hour: u8) -> Service
     ensures { result ≡ service_at hour }
 {
     match hour {
-        0..=27 => Service::Programme,
         28 => Service::Continuation,
         29 => Service::Interruption,
         30 => Service::InhibitTerminate,
         31 => Service::TimerControl,
-        32..=255 => Service::Programme,
+        _ => Service::Programme,
     }
 }
 
 // What a PIL says of the programme; a number wider than twenty bits is no service code.
+#[tactic(auto, unfolding(crate::specs::Pil::service_of))]
 pub fn service_of(pil: u32) -> Service
     ensures { result ≡ service_of pil }
 {

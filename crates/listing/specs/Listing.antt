@@ -1,37 +1,36 @@
 -- What is printed of a page (document 02, #103): one definition over the bytes of its packets.
-use Rattle.std.specs.Prelude.{ℕ, Bool, cond, List, [], ◌∷◌, ◌++◌, length}
+use Rattle.std.specs.Prelude.{ℕ, Bool, cond, List, [], ◌∷◌, ◌++◌, length, Option, None, Some}
 use Rattle.answer.specs.Answer.{Answer, refused, given}
 use Rattle.answer.specs.Text.{space, line_feed, decimal_in}
+use Rattle.text.specs.Columns as columns
 use Rattle.group.specs.declared.Offset.{Offset}
 use Rattle.group.specs.declared.Offset.TheVariants.{East, West}
 use Rattle.programmes.specs.declared.Finish.{Finish}
 use Rattle.programmes.specs.declared.Finish.TheVariants as finish
-use Rattle.programmes.specs.declared.Series.{Series}
-use Rattle.programmes.specs.declared.Series.TheVariants as series
 use Rattle.programmes.specs.declared.Programme.{Programme}
 use Rattle.programmes.specs.Page.{reading_of}
 
 -- ── the signs ──────────────────────────────────────────────────────────────────────────────────────────────────────
 abbrev pub plus : ℕ
-plus = 43
+plus = columns.plus
 
 abbrev pub minus : ℕ
-minus = 45
+minus = columns.minus
 
 abbrev pub colon : ℕ
-colon = 58
+colon = columns.colon
 
 -- ── the columns ────────────────────────────────────────────────────────────────────────────────────────────────────
 -- 'in decimal without leading zeros'; three digits hold each of the numbers: they are bytes
 abbrev pub column : ℕ → List ℕ
-column n = space ∷ decimal_in 3 n
+column n = columns.column n
 
 abbrev pub pair : ℕ → ℕ → List ℕ
-pair a b = column a ++ column b
+pair a b = columns.pair a b
 
 -- '`h:m`' ('`20:0` is eight in the evening')
 abbrev pub hour_minute : ℕ → ℕ → List ℕ
-hour_minute h m = decimal_in 3 h ++ (colon ∷ decimal_in 3 m)
+hour_minute h m = columns.hour_minute h m
 
 -- 'finish being `-`, `h:m` for a time or `+h:m` for a duration'
 abbrev pub finish_column : Finish → List ℕ
@@ -49,9 +48,9 @@ abbrev pub flag_column : Bool → List ℕ
 flag_column controlled = column (cond controlled 1 0)
 
 -- 'series `-` or its code'
-abbrev pub series_column : Series → List ℕ
-series_column series.Absent = space ∷ minus ∷ []
-series_column (series.Code k) = column k
+abbrev pub series_column : Option ℕ → List ℕ
+series_column None = space ∷ minus ∷ []
+series_column (Some k) = column k
 
 -- ── the lines ──────────────────────────────────────────────────────────────────────────────────────────────────────
 -- '`G row column day month hour minute ..`'

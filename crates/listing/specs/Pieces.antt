@@ -1,10 +1,11 @@
 -- A page as it is collected, piece by piece, and its listing as it is stored.
-use Rattle.std.specs.Prelude.{ℕ, ◌+◌, ◌-◌, ◌*◌, min, Bool, cond, ◌≡◌, List, [], ◌++◌, leb, eqb, length, take, replicate}
+use Rattle.std.specs.Prelude.{ℕ, ◌+◌, ◌-◌, ◌*◌, Bool, cond, ◌≡◌, List, ◌++◌, leb, length, Result, Ok, Err}
 use Rattle.std.proofs.lemmas.List.Edits.{sets}
-use Rattle.answer.specs.Answer.{number, after}
+use Rattle.answer.specs.Answer.{given, and_then}
+use Rattle.held.specs.Held as first
 use Rattle.programmes.specs.declared.Page.{Page}
-use Rattle.programmes.specs.declared.Reading.{Reading}
-use Rattle.programmes.specs.Page.{most, reading_of, page_of, read_number}
+use Rattle.programmes.specs.declared.Refusal.{Refusal}
+use Rattle.programmes.specs.Page.{most, reading_of, page_of, read_number, reading_answer}
 use Rattle.programmes.specs.Written.{programmes_of}
 use Rattle.listing.specs.declared.Collected.{Collected}
 use Rattle.listing.specs.Listing.{programme_lines, count_line, refusal_line, listing_of}
@@ -15,27 +16,26 @@ deciding = 714
 
 -- how many bytes are held: a length above all of them counts as that
 abbrev pub held_in : ℕ → ℕ
-held_in n = min n deciding
+held_in n = first.held_in deciding n
 
 unfoldable pub held : Collected → List ℕ
-held c = take (held_in c.length) c.bytes
+held c = first.held deciding c.held
 
 -- after a piece of input: as many of its bytes as find room stand after those held
-abbrev pub kept : List ℕ → ℕ → List ℕ
-kept p n = take (deciding - n) p
-
 unfoldable pub after_piece : List ℕ → Collected → Collected
-after_piece p c =
-    let n = held_in c.length in
-    record { length = n + length (kept p n); bytes = sets c.bytes n (kept p n) }
+after_piece p c = record { held = first.after_piece deciding p c.held }
 
 -- nothing has arrived
 unfoldable pub blank : Collected
-blank = record { length = 0; bytes = replicate deciding 0 }
+blank = record { held = first.blank deciding }
 
 -- no byte more decides anything (law `settled`)
 abbrev pub is_full : Collected → Bool
-is_full c = leb deciding c.length
+is_full c = first.is_full deciding c.held
+
+-- how many bytes may still decide something
+abbrev pub left : Collected → ℕ
+left c = deciding - c.held.length
 
 -- what the input's end prints
 unfoldable pub end_told : Collected → List ℕ
@@ -56,9 +56,10 @@ reported_by out c = cond (leb longest (length out)) (length (end_told c)) 0
 unfoldable pub out_after : List ℕ → Collected → List ℕ
 out_after out c = cond (leb longest (length out)) (sets out 0 (end_told c)) out
 
--- a page as the reader gives it: the paper's number or 0, and the programmes
-abbrev pub ReadAs : List ℕ → Reading → Type 0
-ReadAs p r = (read_number r.verdict ≡ number (reading_of p)) × (r.page ≡ page_of (after [] (reading_of p)))
+-- a page as the reader gives it: its programmes, or the paper's number
+abbrev pub ReadAs : List ℕ → Result Page Refusal → Type 0
+ReadAs p r = reading_answer r ≡ and_then (reading_of p) (λ qs. given (page_of qs))
 
-unfoldable pub read_lines : ℕ → Page → List ℕ
-read_lines n page = cond (eqb n 0) (programme_lines (programmes_of page) ++ count_line page.count) (refusal_line n)
+unfoldable pub read_lines : Result Page Refusal → List ℕ
+read_lines (Err r) = refusal_line (read_number r)
+read_lines (Ok page) = programme_lines (programmes_of page) ++ count_line page.count

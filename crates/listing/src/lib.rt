@@ -7,11 +7,12 @@ mod pieces; // a page fed piece by piece, and reported
 ghost use Rattle.std.specs.Prelude.{true, ◌≡◌};
 ghost use Rattle.listing.specs.Laws.{Laws};
 
+use held::Held;
+
 // A page as far as it has arrived: its first bytes, up to the end of a seventeenth packet, and how many there are.
 #[derive(Clone, Copy)]
 pub struct Collected {
-    pub length: usize,
-    pub bytes: [u8; 714],
+    pub held: Held<714>,
 }
 
 // The laws of the listing, as a promise of the crate.

@@ -1,14 +1,17 @@
 // A page fed piece by piece, and its listing reported.
 ghost use Rattle.std.specs.Prelude.{◌≤◌, ◌≡◌, ◌++◌, length, take};
 ghost use Rattle.answer.specs.Text.{Stored};
-ghost use Rattle.programmes.specs.Page.{read_number};
+ghost use Rattle.text.specs.Printed.{Printed};
+ghost use Rattle.programmes.specs.Written.{programmes_of};
 ghost use Rattle.listing.specs.Listing.{programme_lines, count_line};
-ghost use Rattle.listing.specs.Pieces.{held_in, blank, after_piece, is_full, longest, reported_by, out_after, ReadAs, read_lines};
+ghost use Rattle.listing.specs.Pieces.{held_in, blank, after_piece, is_full, left, reported_by, out_after, ReadAs, read_lines};
 
 use crate::Collected;
 use crate::lines::{count_line, programme_line, refusal_line};
 use answer::least;
-use programmes::{Programme, Reading};
+use held::{Collecting, Held};
+use programmes::{Page, Refusal};
+use text::Printer;
 
 // Seventeen packets: a seventeenth has no designation left, and what follows it decides nothing.
 const DECIDING: usize = 714;
@@ -20,35 +23,39 @@ const MOST: usize = 103;
 const LONGEST: usize = 5568;
 
 // 'For each programme .. then `Z count`.'
-fn put_page(out: &mut [u8], programmes: [Programme; 103], count: usize) -> usize
-    requires { longest ≤ length out.old }
-    ensures { Stored out.old 0 (programme_lines (take count programmes) ++ count_line count) result out.new }
+fn put_page(out: &mut Printer<'_>, page: Page)
+    ensures { Printed out.old (programme_lines (programmes_of page) ++ count_line page.count) out.new }
 {
-    let shown = least(count, MOST);
-    let mut at: usize = 0;
-    let mut i: usize = 0;
-    while i < shown {
-        at = programme_line(out, at, programmes[i]);
-        i += 1;
+    let shown = &page.programmes[..least(page.count, MOST)];
+    for q in shown {
+        programme_line(out, *q);
     }
-    count_line(out, at, count)
+    count_line(out, page.count);
 }
 
 // 'For a refused page `R number` alone.'
-fn put_reading(out: &mut [u8], reading: Reading) -> usize
-    requires { longest ≤ length out.old }
-    ensures { Stored out.old 0 (read_lines (read_number reading.verdict) reading.page) result out.new }
+#[tactic(auto, unfolding(crate::specs::Pieces::read_lines))]
+fn put_reading(out: &mut Printer<'_>, reading: Result<Page, Refusal>)
+    ensures { Printed out.old (read_lines reading) out.new }
 {
-    let verdict = reading.verdict;
-    let number = verdict.number();
-    if number == 0 {
-        let programmes = reading.page.programmes;
-        return put_page(out, programmes, reading.page.count);
+    match reading {
+        Ok(page) => put_page(out, page),
+        Err(refusal) => refusal_line(out, refusal.number()),
     }
-    refusal_line(out, 0, number)
 }
 
-fn read_held(bytes: [u8; 714], n: usize) -> Reading
+// From the buffer's first place on.
+#[tactic(auto, using(text::proofs::Printing::stored))]
+fn print(out: &mut [u8], reading: Result<Page, Refusal>) -> usize
+    requires { length (read_lines reading) ≤ length out.old }
+    ensures { Stored out.old 0 (read_lines reading) result out.new }
+{
+    let mut printer = Printer { buffer: out, at: 0 };
+    put_reading(&mut printer, reading);
+    printer.at
+}
+
+fn read_held(bytes: [u8; 714], n: usize) -> Result<Page, Refusal>
     ensures { ReadAs (take (held_in n) bytes) result }
 {
     let end = least(n, DECIDING);
@@ -56,37 +63,29 @@ fn read_held(bytes: [u8; 714], n: usize) -> Reading
 }
 
 impl Collected {
+    #[tactic(auto, unfolding(crate::specs::Pieces::blank))]
     pub fn new() -> Collected
         ensures { result ≡ blank }
     {
-        Collected {
-            length: 0,
-            bytes: [0; 714],
-        }
+        Collected { held: Held::new() }
     }
 
     // As many bytes of a piece as find room are kept.
+    #[tactic(auto, unfolding(crate::specs::Pieces::after_piece))]
     pub fn feed(self, piece: &[u8]) -> Collected
         ensures value { result ≡ after_piece piece.now self }
         ensures piece_value { piece.exit.now ≡ piece.entry.now }
     {
-        let start = least(self.length, DECIDING);
-        let more = least(DECIDING - start, piece.len());
-        let mut bytes = self.bytes;
-        let mut i: usize = 0;
-        while i < more {
-            bytes[start + i] = piece[i];
-            i += 1;
+        Collected {
+            held: self.held.feed(piece),
         }
-        let length = start + more;
-        Collected { length, bytes }
     }
 
     // Whether no byte more decides anything (law `settled`).
     pub fn full(self) -> bool
         ensures { result ≡ is_full self }
     {
-        DECIDING <= self.length
+        self.held.full()
     }
 
     // The input's end prints the listing, where it fits.
@@ -96,8 +95,20 @@ impl Collected {
         if out.len() < LONGEST {
             return 0;
         }
-        let bytes = self.bytes;
-        let reading = read_held(bytes, self.length);
-        put_reading(out, reading)
+        print(out, read_held(self.held.bytes, self.held.length))
+    }
+}
+
+impl Collecting for Collected {
+    ghost left = { left };
+
+    ghost after = { after_piece };
+
+    fn fed(self, piece: &[u8]) -> Collected {
+        self.feed(piece)
+    }
+
+    fn is_full(self) -> bool {
+        self.full()
     }
 }

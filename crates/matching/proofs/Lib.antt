@@ -1,4 +1,3 @@
-pub mod First
 pub mod Sights
 pub mod Codes
 pub mod Proved

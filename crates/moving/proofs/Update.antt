@@ -4,9 +4,10 @@ use mathlib.Core.Path.{◌≡◌, refl, sym, ap, ◌∙◌}
 use mathlib.Core.Bool.{Bool, true, false, cond, not, ◌&&◌, ◌||◌, true≢false}
 use mathlib.Core.List.{List, [], ◌∷◌, map}
 use native.Mathlib.Omega.{arith}
-use borrow.Author.Tests.{leb-false, lt-leb, eqb-true}
+use borrow.Author.Tests.{leb-false, eqb-true}
 use lib.Dec.{leb, ltb, eqb}
 use lib.ListN.{get_or, get_or-map}
+use Rattle.std.specs.Prelude.{Option, position}
 use Rattle.answer.specs.Answer.{Answer, refused, given, first_of, and_then}
 use Rattle.answer.proofs.Cases.{by_test, both_true}
 use Rattle.answer.proofs.Every.{first_holds}
@@ -18,7 +19,7 @@ use Rattle.calendar.specs.Calendar.{real_in, window_at, window_in}
 use Rattle.calendar.proofs.Windows.{accepted, window_in_given}
 use Rattle.places.specs.declared.Stamped.{Stamped}
 use Rattle.places.specs.Places.{Found, nowhere, at, lowest_from, lowest, stands}
-use Rattle.places.proofs.Search.{lowest_passes}
+use Rattle.places.proofs.Search.{by_position, lowest_passes}
 use Rattle.matching.specs.declared.Booking.{Booking}
 use Rattle.matching.specs.Matching.{open_in, open_at, matches}
 use Rattle.matching.proofs.Codes.{real_programme, codes_match_nothing}
@@ -27,10 +28,11 @@ use Rattle.rule.specs.Rule.{held}
 use Rattle.sixteen.specs.Sixteen.{no_timer, is_nowhere, slot_of}
 use Rattle.moving.specs.Moving.{Update, repeats, moves, meant, match_rows, is_repeat, moved_to, window_rows, moving_to, update_for}
 
--- a number below 16 that is the slot's is found there
-pub found_at_lem : (f : Found) (r : ℕ) → r ≡ slot_of f → leb 16 r ≡ is_nowhere f → r < 16 → f ≡ at r
-found_at_lem nowhere r e k h = absurd (true≢false (sym k ∙ lt-leb 16 r h))
-found_at_lem (at i) r e k h = ap at (sym e)
+-- the library's search finds the same slot
+pub meant_is : (s : ℕ) (old : Stamped) (timers : List Timer) {r : Option ℕ} → r ≡ position (λ t. held t.copy && matches s t.booking old) timers →
+    r ≡ meant s old timers
+unfolding meant
+meant_is s old timers e = by_position (λ t. held t.copy && matches s t.booking old) timers e
 
 open_year : (s : ℕ) (b : Booking) → open_at s b ≡ true → b.year ≤ 99
 unfolding open_at

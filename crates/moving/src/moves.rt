@@ -10,17 +10,13 @@ use sixteen::slots::{any_holds, no_timer, put_timer, timer_at};
 pub fn moved_in(s: u32, slot: usize, b: Booking, timers: [Timer; 16]) -> [Timer; 16]
     ensures { result ≡ moved_in s slot b timers }
 {
-    let free = no_timer();
-    let others = put_timer(timers, slot, free);
-    let held = any_holds(s, others, b);
-    if held {
+    let others = put_timer(timers, slot, no_timer());
+    if any_holds(s, others, b) {
         return others;
     }
-    let old = timer_at(timers, slot);
-    let c = old.copy;
     let t = Timer {
         booking: b,
-        copy: c,
+        ..timer_at(timers, slot)
     };
     put_timer(timers, slot, t)
 }

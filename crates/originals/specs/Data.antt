@@ -1,12 +1,13 @@
 -- R11 to R13: what the data must read as, and what is carried on (EN 300 231 clauses 7.3.1.4 c) to o), 7.3.1.5 rules 5 to 8; document 02,
 -- #108).
-use Rattle.std.specs.Prelude.{ℕ, Bool, true, false, ◌&&◌, ◌≡◌, List, [], ◌∷◌, ◌++◌}
+use Rattle.std.specs.Prelude.{ℕ, Bool, true, false, ◌&&◌, Some, None, is_some, unwrap_or, ◌≡◌, List, [], ◌∷◌, ◌++◌}
 use Rattle.figures.specs.declared.Offset.{Offset}
 use Rattle.figures.specs.declared.Offset.TheVariants.{Plus}
 use Rattle.figures.specs.declared.Value.{Value}
 use Rattle.figures.specs.declared.Value.TheVariants as value
 use Rattle.figures.specs.Permitted.{value_of}
 use Rattle.rows.specs.Row.{Content, format, title}
+use Rattle.originals.specs.declared.Date.{Date}
 use Rattle.originals.specs.declared.InForce.{InForce}
 use Rattle.originals.specs.declared.Original.{Original}
 
@@ -39,83 +40,43 @@ data_in (title row column ∷ xs) = data_in xs
 -- ── what is carried on ─────────────────────────────────────────────────────────────────────────────────────────────
 -- 'no offset yet is 0, no type is 0'
 abbrev pub nothing : InForce
-nothing = record {
-  networked = false;
-  network = 0;
-  dated = false;
-  day = 0;
-  month = 0;
-  year = 0;
-  offset = Plus 0;
-  pty = 0;
-}
+nothing = record { network = None; date = None; offset = Plus 0; pty = 0 }
+
+abbrev pub date_by : ℕ → ℕ → ℕ → Date
+date_by d m y = record { day = d; month = m; year = y }
 
 -- 'the last network, date and offset given before it on the page'
 unfoldable pub with_network : ℕ → InForce → InForce
-with_network n f = record {
-  networked = true;
-  network = n;
-  dated = f.dated;
-  day = f.day;
-  month = f.month;
-  year = f.year;
-  offset = f.offset;
-  pty = f.pty;
-}
+with_network n f = record { network = Some n; date = f.date; offset = f.offset; pty = f.pty }
 
 unfoldable pub with_date : ℕ → ℕ → ℕ → InForce → InForce
-with_date d m y f = record {
-  networked = f.networked;
-  network = f.network;
-  dated = true;
-  day = d;
-  month = m;
-  year = y;
-  offset = f.offset;
-  pty = f.pty;
-}
+with_date d m y f = record { network = f.network; date = Some (date_by d m y); offset = f.offset; pty = f.pty }
 
 unfoldable pub with_offset : Offset → InForce → InForce
-with_offset o f = record {
-  networked = f.networked;
-  network = f.network;
-  dated = f.dated;
-  day = f.day;
-  month = f.month;
-  year = f.year;
-  offset = o;
-  pty = f.pty;
-}
+with_offset o f = record { network = f.network; date = f.date; offset = o; pty = f.pty }
 
 -- 'and the last type given since the original time before it'
 unfoldable pub with_type : ℕ → InForce → InForce
-with_type n f = record {
-  networked = f.networked;
-  network = f.network;
-  dated = f.dated;
-  day = f.day;
-  month = f.month;
-  year = f.year;
-  offset = f.offset;
-  pty = n;
-}
+with_type n f = record { network = f.network; date = f.date; offset = f.offset; pty = n }
 
--- R12: what an original time has
+-- R12: what an original time has; what is not in force yet counts as 0
 unfoldable pub original_by : InForce → ℕ → ℕ → Original
-original_by f h m = record {
-  hour = h;
-  minute = m;
-  network = f.network;
-  day = f.day;
-  month = f.month;
-  year = f.year;
-  offset = f.offset;
-  pty = f.pty;
-}
+original_by f h m =
+    let date = unwrap_or f.date (date_by 0 0 0) in
+    record {
+      hour = h;
+      minute = m;
+      network = unwrap_or f.network 0;
+      day = date.day;
+      month = date.month;
+      year = date.year;
+      offset = f.offset;
+      pty = f.pty;
+    }
 
 -- R13: 'before the first original time stand a network and a date'
 abbrev pub is_complete : InForce → Bool
-is_complete f = f.networked && f.dated
+is_complete f = is_some f.network && is_some f.date
 
 -- ── what they must read as ─────────────────────────────────────────────────────────────────────────────────────────
 -- '( (N | A | O)*  ( Y (A | O | Y)* )?  2 )+': these data, after what is in force and a type or none since the original time before them,

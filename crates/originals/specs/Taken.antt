@@ -1,11 +1,9 @@
 -- The data taken one at a time. What they must read as is said in Data.antt; the laws say that this is the same.
-use Rattle.std.specs.Prelude.{ℕ, Bool, true, false, not, ◌&&◌, ◌||◌, List, [], ◌∷◌, ◌++◌}
+use Rattle.std.specs.Prelude.{ℕ, Bool, true, false, Option, Some, None, not, ◌&&◌, ◌||◌, List, [], ◌∷◌, ◌++◌}
 use Rattle.figures.specs.declared.Offset.{Offset}
 use Rattle.originals.specs.declared.InForce.{InForce}
 use Rattle.originals.specs.declared.Original.{Original}
 use Rattle.originals.specs.declared.Data.{Data}
-use Rattle.originals.specs.declared.Given.{Given}
-use Rattle.originals.specs.declared.Given.TheVariants.{Nothing, Timed}
 use Rattle.originals.specs.Data.{Datum, N, A, O, Y, Two, nothing, with_network, with_date, with_offset, with_type, original_by, is_complete}
 
 abbrev pub data_start : Data
@@ -60,6 +58,6 @@ originals_from s (d ∷ ds) = originals_by s d ++ originals_from (data_after s d
 
 -- ── as it is told ──────────────────────────────────────────────────────────────────────────────────────────────────
 -- one original time or none
-abbrev pub given_of : List Original → Given
-given_of [] = Nothing
-given_of (x ∷ xs) = Timed x
+abbrev pub given_of : List Original → Option Original
+given_of [] = None
+given_of (x ∷ xs) = Some x

@@ -1,12 +1,11 @@
 // Lists a page's programmes: standard input in large pieces through `listing`, and what it prints to standard output.
 #![tactic(auto)]
 
-ghost use Rattle.std.specs.Prelude.{◌+◌, ◌≤◌, min, ◌≡◌, length};
+ghost use Rattle.std.specs.Prelude.{◌≤◌, ◌≡◌, length};
 ghost use Rattle.std.proofs.lemmas.List.Edits.{sets};
-ghost use Rattle.listing.specs.Pieces.{deciding, end_told, longest};
+ghost use Rattle.listing.specs.Pieces.{end_told, longest};
 
 use listing::Collected;
-use std::io::{Read, Write};
 
 // A listing that finds room is stored whole.
 fn reported(page: Collected, out: &mut [u8]) -> usize
@@ -16,51 +15,19 @@ fn reported(page: Collected, out: &mut [u8]) -> usize
     page.report(out)
 }
 
-#[derive(Clone, Copy)]
-struct Turn {
-    got: usize,
-    ended: bool,
-    page: Collected,
-}
-
-// One piece.
-fn collect_piece<R: Read, E: Write>(from: &mut R, told: &mut E, page: Collected) -> Turn
-    ensures { result.page.length ≡ min (page.length + result.got) deciding }
-{
-    let mut piece = [0u8; 4096];
-    let got = streams::read(
-        from,
-        told,
-        &mut piece,
-        b"pages: the input could not be read",
-    );
-    let n = got.count;
-    let next = page.feed(&piece[..n]);
-    Turn {
-        got: n,
-        ended: got.ended,
-        page: next,
-    }
-}
-
 // Reads up to the input's end, and no further than bytes decide something. A page whose end was not seen is not listed: cut after a
 // packet, it would be another page.
 fn main(rt: HostRuntime) {
     let mut from = rt.stdin();
     let mut to = rt.stdout();
     let mut told = rt.stderr();
-    let mut page = Collected::new();
-    let mut more = true;
-    let mut seen = false;
-    while more {
-        let t = collect_piece(&mut from, &mut told, page);
-        let next = t.page;
-        page = next;
-        let full = page.full();
-        seen = t.ended | full;
-        more = (t.got > 0) & !full;
-    }
-    if seen {
+    let page = streams::collect(
+        &mut from,
+        &mut told,
+        Collected::new(),
+        b"pages: the input could not be read",
+    );
+    if let Some(page) = page {
         let mut out = [0u8; 65536];
         let n = reported(page, &mut out);
         streams::write(

@@ -1,6 +1,7 @@
 -- The places (document 01, amended by 02): what is heard at one, how long it stands, and the lowest of them. A second is a number of the clock; a
 -- place is a number from 0 to 15.
-use Rattle.std.specs.Prelude.{ℕ, suc, ◌+◌, ◌-◌, ◌*◌, Bool, true, false, cond, not, ◌&&◌, ◌||◌, List, [], ◌∷◌, map, leb, eqb, get_or}
+use Rattle.std.specs.Prelude.{ℕ, suc, ◌+◌, ◌-◌, ◌*◌, Bool, true, false, cond, not, ◌&&◌, ◌||◌, List, [], ◌∷◌, map, leb, eqb, get_or, Option}
+pub use Rattle.std.specs.Prelude.{None as nowhere, Some as at}
 use Rattle.answer.specs.Lists.{some}
 use Rattle.label.specs.declared.Label.{Label}
 use Rattle.label.specs.declared.pil.Service.{Service}
@@ -67,9 +68,9 @@ unfoldable pub labels_fail : ℕ → List Stamped → ℕ → Bool
 labels_fail s ls tuner = not (some (stands s) (of_tuner tuner ls)) || some (timer_control s) (of_tuner tuner ls)
 
 -- ── The lowest ─────────────────────────────────────────────────────────────────────────────────────────────────────
-pub data Found : Type 0 where
-  nowhere : Found
-  at : ℕ → Found
+-- the number that is found, `at` one or `nowhere`
+abbrev pub Found : Type 0
+Found = Option ℕ
 
 -- the lowest number, counted from i, whose element passes
 abbrev pub lowest_from : {A : Type 0} → (A → Bool) → ℕ → List A → Found

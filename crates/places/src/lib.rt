@@ -12,7 +12,8 @@ pub mod failing; // a tuner without labels
 pub mod standing; // what a place holds, and how long it stands
 
 // What a place last heard. A place that has heard nothing yet is the value with `heard` false. The wider fields of a struct come first, so that
-// none is padded inside: the desk holds sixteen of these, and every call copies it whole.
+// none is padded inside: the desk holds sixteen of these, and every call copies it whole. A flag, and no `Option`: the definitions `no_label`
+// and `stands` speak of this value's fields.
 #[derive(Clone, Copy)]
 pub struct Stamped {
     pub stamp: u32,
@@ -23,41 +24,24 @@ pub struct Stamped {
     pub mi: bool,
 }
 
-// Past the last place there is no label.
+// Past the last place there is no label. A function, and `put_label`, by the laws `label_at_unique` and `put_label_unique`.
 pub fn label_at(places: [Stamped; 16], p: usize) -> Stamped
     ensures { result ≡ get_or places p no_label }
 {
-    if p < 16 {
-        return places[p];
-    }
-    no_label()
+    answer::at_or(places, p, no_label())
 }
 
 // Past the last place nothing is put.
 pub fn put_label(places: [Stamped; 16], p: usize, l: Stamped) -> [Stamped; 16]
     ensures { result ≡ set places p l }
 {
-    if p < 16 {
-        let mut out = places;
-        out[p] = l;
-        return out;
-    }
-    places
+    answer::put(places, p, l)
 }
 
-pub fn any_stands(s: u32, places: [Stamped; 16]) -> bool
-    ensures { result ≡ some (stands s) places }
+pub fn any_stands<const N: usize>(s: u32, places: [Stamped; N]) -> bool
+    ensures { result ≡ some (stands s) places.entry }
 {
-    let mut i: usize = 0;
-    while i < 16 {
-        let l = places[i];
-        let up = stands(l, s);
-        if up {
-            return true;
-        }
-        i += 1;
-    }
-    false
+    places.iter().any(|l| stands(*l, s))
 }
 
 // The laws of the places, as a promise of the crate.

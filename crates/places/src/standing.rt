@@ -26,8 +26,7 @@ pub fn no_label() -> Stamped
 pub fn stands(l: Stamped, s: u32) -> bool
     ensures { result ≡ stands s l }
 {
-    let young = s as u64 <= l.stamp as u64 + STAND_FOR;
-    l.heard & young
+    l.heard & (s as u64 <= l.stamp as u64 + STAND_FOR)
 }
 
 // 'An accepted packet at second t puts its label at its place, stamped t.'
@@ -48,16 +47,8 @@ fn stamped(t: u32, l: Label) -> Stamped
 fn renewed(t: u32, old: Stamped) -> Stamped
     ensures { result ≡ renewed t old }
 {
-    let up = stands(old, t);
-    if up {
-        return Stamped {
-            stamp: t,
-            pil: old.pil,
-            cni: old.cni,
-            heard: old.heard,
-            prf: old.prf,
-            mi: old.mi,
-        };
+    if stands(old, t) {
+        return Stamped { stamp: t, ..old };
     }
     old
 }
@@ -65,23 +56,15 @@ fn renewed(t: u32, old: Stamped) -> Stamped
 fn is_continuation(service: Service) -> bool
     ensures { result ≡ is_continuation service }
 {
-    match service {
-        Service::Programme => false,
-        Service::TimerControl => false,
-        Service::InhibitTerminate => false,
-        Service::Interruption => false,
-        Service::Continuation => true,
-        Service::NoSpecificValue => false,
-    }
+    matches!(service, Service::Continuation)
 }
 
 // 'A continuation code puts no label.' 'Other service codes and no-specific-value stand as labels.'
+#[tactic(auto, unfolding(crate::specs::Places::heard_at))]
 pub fn heard_at(t: u32, l: Label, old: Stamped) -> Stamped
     ensures { result ≡ heard_at t l old }
 {
-    let service = label::pil::service_of(l.pil);
-    let continued = is_continuation(service);
-    if continued {
+    if is_continuation(label::pil::service_of(l.pil)) {
         return renewed(t, old);
     }
     stamped(t, l)

@@ -1,5 +1,5 @@
 -- The bytes of a page, one after the other.
-use Prim.Native.Nat.{ℕ, zero, suc, ◌+◌, ◌-◌, ◌*◌, ◌/◌, ◌%◌, ◌≤◌, ◌<◌}
+use Prim.Native.Nat.{ℕ, zero, suc, ◌+◌, ◌/◌, ◌%◌, ◌<◌}
 use mathlib.Core.Path.{◌≡◌, refl, sym, ap, ◌∙◌}
 use mathlib.Core.Bool.{false}
 use mathlib.Core.List.{List, [], ◌∷◌, map}
@@ -15,9 +15,8 @@ use Rattle.group.specs.declared.Group.{Group}
 use Rattle.group.specs.declared.Group.TheVariants as group
 use Rattle.group.specs.Group.{bits_of}
 use Rattle.group.proofs.Proved as groups
-use Rattle.triplet.specs.Word.{good}
 use Rattle.programmes.specs.declared.Programme.{Programme}
-use Rattle.programmes.specs.Written.{groups_for, bits_at, byte_of, byte_in, bytes_to, outside}
+use Rattle.programmes.specs.Written.{groups_for, bits_at, byte_in, bytes_to, outside}
 use Rattle.programmes.specs.Meaning.{nothing}
 use Rattle.answer.proofs.Filled.{filled_at}
 use Rattle.programmes.proofs.Ranges.{Sendable, sendable}
@@ -43,22 +42,6 @@ small_at (g ∷ gs) (suc n) a = small_at gs n a.1
 pub bits_small : (qs : List Programme) (n : ℕ) → some outside qs ≡ false → bits_at (groups_for qs) n < 262144
 unfolding groups_for
 bits_small qs n e = small_at (groups_for qs) n (sendable nothing qs e)
-
--- ── a byte ─────────────────────────────────────────────────────────────────────────────────────────────────────────
-pub third_byte : (w n : ℕ) → (n ≡ 0 → ⊥) → (n ≡ 1 → ⊥) → w / 65536 % 256 ≡ byte_of w n
-third_byte w zero a b = absurd (a refl)
-third_byte w (suc zero) a b = absurd (b refl)
-third_byte w (suc (suc n)) a b = refl
-
--- byte j of packet k, of a triplet's eighteen bits where it is past the first three
-module _ (m : ℕ) (gs : List Group) (k : ℕ) where
-  pub triplet_byte : (j v : ℕ) → 3 ≤ j → bits_at gs (13 * k + (j - 3) / 3) ≡ v → byte_of (good v) ((j - 3) % 3) ≡ byte_in m gs k j
-  triplet_byte zero v l e = absurd (omega arith)
-  triplet_byte (suc zero) v l e = absurd (omega arith)
-  triplet_byte (suc (suc zero)) v l e = absurd (omega arith)
-  triplet_byte (suc (suc (suc i))) v l e =
-      let h : suc (suc (suc i)) - 3 ≡ i = omega arith in
-      rw h (ap (λ (x : ℕ). byte_of (good x) (i % 3)) (sym (rw h at e)))
 
 -- ── the bytes ──────────────────────────────────────────────────────────────────────────────────────────────────────
 module _ (m : ℕ) (gs : List Group) where

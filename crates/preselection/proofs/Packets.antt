@@ -6,7 +6,7 @@ use mathlib.Core.List.{List, [], ◌∷◌, ◌++◌}
 use native.Mathlib.Omega.{arith}
 use native.Mathlib.Decide.{dec_lt}
 use lib.ListN.{length}
-use Rattle.answer.specs.Answer.{Answer, refused, given, Row, first_of, and_then, number, after}
+use Rattle.answer.specs.Answer.{Answer, refused, given, Row, first_of, and_then}
 use Rattle.answer.specs.Lists.{some}
 use Rattle.answer.proofs.Every.{Passed, passed}
 use Rattle.label.specs.Packet.{damaged}
@@ -20,6 +20,10 @@ use Rattle.sequence.specs.declared.State.{State}
 use Rattle.sequence.specs.Sequence.{start, state_from, programmes_from}
 use Rattle.sequence.proofs.Along.{state_append, programmes_append}
 use Rattle.sequence.proofs.Made.{made, lacking}
+
+-- the page that is given, of the programmes
+abbrev paged : Answer (List Programme) → Answer Page
+paged a = and_then a (λ qs. given (page_of qs))
 
 -- ── the rows ───────────────────────────────────────────────────────────────────────────────────────────────────────
 passed_append : (rows more : List Row) → Passed rows → Passed more → Passed (rows ++ more)
@@ -109,14 +113,14 @@ module _ (p : List ℕ) where
 
   -- ── at the end ─────────────────────────────────────────────────────────────────────────────────────────────────────
   pub read_all : {s : State} {page : Page} {k : ℕ} → Sofar s page k → length p ≤ 42 * k →
-      (0 ≡ number (reading_of p)) × (page ≡ page_of (after [] (reading_of p)))
+      given page ≡ and_then (reading_of p) (λ qs. given (page_of qs))
   unfolding reading_of programmes_to
   read_all {s} {page} {k} m h =
       let w = m.whole in
       let e : packets_of p ≡ k = omega arith in
       let g : reading_of p ≡ given (programmes_to p k) = rw e (passed (programmes_to p k) (rows_to p k) m.passing) in
-      (ap number (sym g), m.made_of ∙ ap page_of (made (groups_to p k)) ∙ ap (λ (x : Answer (List Programme)). page_of (after [] x)) (sym g))
+      ap given (m.made_of ∙ ap page_of (made (groups_to p k))) ∙ sym (ap paged g)
 
   -- and where it is refused
-  pub refused_as : {n : ℕ} {page : Page} → reading_of p ≡ refused n → page ≡ page_of [] → (n ≡ number (reading_of p)) × (page ≡ page_of (after [] (reading_of p)))
-  refused_as e f = (ap number (sym e), f ∙ ap (λ (x : Answer (List Programme)). page_of (after [] x)) (sym e))
+  pub refused_as : {n : ℕ} → reading_of p ≡ refused n → refused n ≡ and_then (reading_of p) (λ qs. given (page_of qs))
+  refused_as e = sym (ap paged e)

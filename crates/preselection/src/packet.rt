@@ -1,4 +1,5 @@
 // One packet of a page: its address and designation, and its triplets taken one at a time.
+// The page and a packet's number, and no slice of the packet: so the definitions speak of byte i of packet k.
 ghost use Rattle.std.specs.Prelude.{◌+◌, ◌*◌, ◌<◌, ◌≤◌, List, ◌≡◌, length};
 ghost use Rattle.answer.specs.Lists.{some};
 ghost use Rattle.label.specs.Packet.{damaged, value_of};
@@ -18,8 +19,7 @@ fn value(n: Nibble) -> u8
 {
     match n {
         Nibble::Damaged => 16,
-        Nibble::Clean(v) => v,
-        Nibble::Mended(v) => v,
+        Nibble::Clean(v) | Nibble::Mended(v) => v,
     }
 }
 
@@ -27,8 +27,7 @@ fn value_at(bytes: &[u8], k: usize, i: usize) -> u8
     requires { (42 * k + 42 ≤ length bytes.now) × (i < 42) }
     ensures { result ≡ value_at bytes.now k i }
 {
-    let n = hamming::decode(bytes[42 * k + i]);
-    value(n)
+    value(hamming::decode(bytes[42 * k + i]))
 }
 
 // 'An address byte, designation .. damaged.'
@@ -57,11 +56,7 @@ pub(crate) fn is_addressed(bytes: &[u8], k: usize) -> bool
 fn is_damaged(t: Triplet) -> bool
     ensures { result ≡ damaged_triplet t }
 {
-    match t {
-        Triplet::Damaged => true,
-        Triplet::Clean(_) => false,
-        Triplet::Mended(_) => false,
-    }
+    matches!(t, Triplet::Damaged)
 }
 
 // 0, which is no group, for a damaged triplet.
@@ -70,8 +65,7 @@ fn bits_in(t: Triplet) -> u32
 {
     match t {
         Triplet::Damaged => 0,
-        Triplet::Clean(v) => v,
-        Triplet::Mended(v) => v,
+        Triplet::Clean(v) | Triplet::Mended(v) => v,
     }
 }
 
@@ -99,24 +93,19 @@ pub(crate) fn take(bytes: &[u8], k: usize, state: State, page: Page) -> Taken
         × (result.page.count ≤ page.count + 13)
         × ((qs : List Programme) → page ≡ page_of qs → result.page ≡ page_of (programmes_from state qs (groups_in bytes.now k))) }
 {
-    let mut damaged = false;
-    let mut s = state;
-    let mut so_far = page;
-    let mut j: usize = 0;
-    while j < 13 {
+    let mut taken = Taken {
+        damaged: false,
+        state,
+        page,
+    };
+    for j in 0..13 {
         let t = triplet_at(bytes, k, j);
-        damaged = damaged | is_damaged(t);
         let g = group::group_of(bits_in(t));
-        let c = s.change(g);
-        let more = change(so_far, c);
-        so_far = more;
-        let next = s.next(g);
-        s = next;
-        j += 1;
+        taken = Taken {
+            damaged: taken.damaged | is_damaged(t),
+            state: taken.state.next(g),
+            page: change(taken.page, taken.state.change(g)),
+        };
     }
-    Taken {
-        damaged,
-        state: s,
-        page: so_far,
-    }
+    taken
 }

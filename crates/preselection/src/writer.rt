@@ -11,10 +11,7 @@ pub(crate) fn triplet_number(k: usize, j: usize) -> usize
     requires { (k < 16) × (j < 42) }
     ensures { result ≡ 13 * k + (j - 3) / 3 }
 {
-    if j < 3 {
-        return 13 * k;
-    }
-    13 * k + (j - 3) / 3
+    13 * k + j.saturating_sub(3) / 3
 }
 
 fn byte_of(w: u32, n: usize) -> u8

@@ -37,12 +37,11 @@ use Rattle.originals.specs.Data.{Datum, data_in, data_of}
 use Rattle.originals.specs.Taken.{data_start, data_after, originals_by, data_from, originals_from, given_of}
 use Rattle.table.specs.declared.Words.{Words}
 use Rattle.table.specs.declared.Words.TheVariants.{Nothing, Same, Different}
-use Rattle.table.specs.declared.Announcements.{Announcements}
-use Rattle.table.specs.declared.Originals.{Originals}
+use Rattle.table.specs.declared.Entries.{Entries}
 use Rattle.table.specs.declared.Table.{Table}
 use Rattle.preview.specs.Page.{all_permitted, sum_in, words_in, is_empty, agrees}
 use Rattle.preview.specs.Taken.{announced_in, originals_in}
-use Rattle.table.specs.Table.{most, one_more, no_announcement, with_told, no_original, with_given, word_after, words_after, agreed, is_wrong, table_start, after_format, titled_at, with_code}
+use Rattle.table.specs.Table.{most, one_more, entered, no_announcement, no_original, word_after, words_after, agreed, is_wrong, table_start, after_format, titled_at, with_code}
 use Rattle.preview.specs.Rows.{with_given_out, with_end, taken_from}
 
 -- ── one list after another ─────────────────────────────────────────────────────────────────────────────────────────
@@ -127,23 +126,20 @@ module _ {A : Type 0} (z : A) where
       ∙ sym (set_out (filled 24 z xs) (length xs) x (omega (arith, short, past)))
       ∙ sym (filled_more z 24 xs x))
 
-abbrev announcements_of : List Announcement → Announcements
-announcements_of xs = record { count = count_of xs; places = filled most no_announcement xs }
-
-abbrev originals_of : List Original → Originals
-originals_of xs = record { count = count_of xs; places = filled most no_original xs }
+abbrev entries_of : {A : Type 0} → A → List A → Entries A
+entries_of z xs = record { count = count_of xs; places = filled most z xs }
 
 -- at most one is told at a time
 data AtMostOne {A : Type 0} : List A → Type 0 where
   none : AtMostOne []
   one : (x : A) → AtMostOne (x ∷ [])
 
-told_more : (xs ys : List Announcement) → AtMostOne ys → with_told (announcements_of xs) (told_of ys) ≡ announcements_of (xs ++ ys)
-told_more xs ys none = ap announcements_of (sym (append-nil xs))
+told_more : (xs ys : List Announcement) → AtMostOne ys → entered (entries_of no_announcement xs) (told_of ys) ≡ entries_of no_announcement (xs ++ ys)
+told_more xs ys none = ap (entries_of no_announcement) (sym (append-nil xs))
 told_more xs ys (one x) = rw (count_more no_announcement xs x, place_more no_announcement xs x) refl
 
-given_more : (xs ys : List Original) → AtMostOne ys → with_given (originals_of xs) (given_of ys) ≡ originals_of (xs ++ ys)
-given_more xs ys none = ap originals_of (sym (append-nil xs))
+given_more : (xs ys : List Original) → AtMostOne ys → entered (entries_of no_original xs) (given_of ys) ≡ entries_of no_original (xs ++ ys)
+given_more xs ys none = ap (entries_of no_original) (sym (append-nil xs))
 given_more xs ys (one x) = rw (count_more no_original xs x, place_more no_original xs x) refl
 
 by_time_lem : (s : Stage) (t : Time) → AtMostOne (by_time s t)
@@ -193,16 +189,16 @@ one_original s (value.Word n) = none
 unfoldable pub table_of : Bool → List Content → Table
 table_of high xs = record {
   stage = stage_from First (times_in xs);
-  announcements = announcements_of (announced_in xs);
+  announcements = entries_of no_announcement (announced_in xs);
   carried = data_from data_start (data_in xs);
-  originals = originals_of (originals_in xs);
+  originals = entries_of no_original (originals_in xs);
   sum = sum_in xs % 256;
   words = words_after Nothing (words_in xs);
   wrong = not (all_permitted xs);
   high = high;
 }
 
-alike : {a b : Stage} {c d : Announcements} {e f : Data} {g h : Originals} {i j : ℕ} {k l : Words} {m n : Bool} (high : Bool) →
+alike : {a b : Stage} {c d : Entries Announcement} {e f : Data} {g h : Entries Original} {i j : ℕ} {k l : Words} {m n : Bool} (high : Bool) →
     a ≡ b → c ≡ d → e ≡ f → g ≡ h → i ≡ j → k ≡ l → m ≡ n →
     ◌≡◌ {A = Table}
     (record { stage = a; announcements = c; carried = e; originals = g; sum = i; words = k; wrong = m; high = high })
@@ -241,9 +237,9 @@ format_step h xs a fs =
     let words : words_in (xs ++ (format a fs ∷ [])) ≡ words_in xs ++ words_of v = words_append xs (format a fs ∷ []) ∙ ap (λ (ns : List ℕ). words_in xs ++ ns) (append-nil (words_of v)) in
     sym (alike h
     (ap (stage_from First) times ∙ stage_append First (times_in xs) (marks_of v))
-    (ap announcements_of (ap (announced_from First) times ∙ announced_append First (times_in xs) (marks_of v)) ∙ sym (told_more (announced_in xs) _ (one_announced _ v)))
+    (ap (entries_of no_announcement) (ap (announced_from First) times ∙ announced_append First (times_in xs) (marks_of v)) ∙ sym (told_more (announced_in xs) _ (one_announced _ v)))
     (ap (data_from data_start) carried ∙ carried_append data_start (data_in xs) (data_of v))
-    (ap originals_of (ap (originals_from data_start) carried ∙ originals_append data_start (data_in xs) (data_of v)) ∙ sym (given_more (originals_in xs) _ (one_original _ v)))
+    (ap (entries_of no_original) (ap (originals_from data_start) carried ∙ originals_append data_start (data_in xs) (data_of v)) ∙ sym (given_more (originals_in xs) _ (one_original _ v)))
     (omega (arith, sum_append xs (format a fs ∷ [])))
     (ap (words_after Nothing) words ∙ word_append Nothing (words_in xs) (words_of v))
     (ap not (permitted_append xs (format a fs ∷ []) ∙ ap (λ (t : Bool). all_permitted xs && t) (and-true (permitted a fs)))
@@ -258,10 +254,10 @@ title_step h xs r c =
     let carried : data_in (xs ++ (title r c ∷ [])) ≡ data_in xs = data_append xs (title r c ∷ []) ∙ append-nil (data_in xs) in
     sym (alike h
     (ap (stage_from First) times ∙ stage_append First (times_in xs) (T r c ∷ []))
-    (ap announcements_of (ap (announced_from First) times ∙ announced_append First (times_in xs) (T r c ∷ []) ∙ ap (λ (ys : List Announcement). announced_in xs ++ ys) (append-nil (by_title (stage_from First (times_in xs)) r c)))
+    (ap (entries_of no_announcement) (ap (announced_from First) times ∙ announced_append First (times_in xs) (T r c ∷ []) ∙ ap (λ (ys : List Announcement). announced_in xs ++ ys) (append-nil (by_title (stage_from First (times_in xs)) r c)))
     ∙ sym (told_more (announced_in xs) _ (by_title_lem (stage_from First (times_in xs)) r c)))
     (ap (data_from data_start) carried)
-    (ap originals_of (ap (originals_from data_start) carried))
+    (ap (entries_of no_original) (ap (originals_from data_start) carried))
     (omega (arith, sum_append xs (title r c ∷ [])))
     (ap (words_after Nothing) (words_append xs (title r c ∷ []) ∙ append-nil (words_in xs)))
     (ap not (permitted_append xs (title r c ∷ []) ∙ and-true (all_permitted xs))))

@@ -1,5 +1,5 @@
 -- A row taken one code at a time: what is left of it makes the same, from what is held on, as the whole row from the start.
-use Prim.Native.Nat.{ℕ, suc, ◌+◌, ◌*◌, ◌≤◌, ◌<◌}
+use Prim.Native.Nat.{ℕ, suc, ◌+◌, ◌*◌, ◌<◌}
 use mathlib.Core.Path.{◌≡◌, refl, sym, ap, ◌∙◌}
 use mathlib.Core.Bool.{Bool, true, false, not, ◌&&◌, ◌||◌, or-false}
 use mathlib.Core.List.{List, [], ◌∷◌}
@@ -23,13 +23,12 @@ use Rattle.preview.proofs.Codes.{row_from, row_end}
 
 -- ── the loop ───────────────────────────────────────────────────────────────────────────────────────────────────────
 pub record Taking (page : List ℕ) (r : ℕ) (was held : Table) (x : Row) (p : ℕ) : Type 0 where
-  pub within : p ≤ 40
   pub column : x.column < 40
   pub rest : taken_from r held x p (drop p (row_of page r)) ≡ row_taken r was (row_of page r)
 
 pub taking_none : (page : List ℕ) (r : ℕ) (was : Table) (x : Row) → x ≡ row_start → Taking page r was was x 0
 unfolding row_taken
-taking_none page r was x e = record { within = omega arith; column = rw e (omega arith); rest = rw e refl }
+taking_none page r was x e = record { column = rw e (omega arith); rest = rw e refl }
 
 -- what is given out at an end, as it is told
 end_is : (r : ℕ) (held : Table) (x : Row) (end pair : Bool) (f : Found) (text titled : Bool) → f ≡ found_here x end → text ≡ is_text_value f.value → titled ≡ titled_by x pair text →
@@ -81,7 +80,6 @@ taking_more page r p {was} {held} {x} l h k s c pair text titled f next y ec ep 
     let on : p + 1 ≡ suc p = omega arith in
     rw on
     record {
-      within = omega (arith, k);
       column = ap_less (sym ey) (column_within x c p pair text s.column k);
       rest = rw (table, row) (ap (taken_from r held x p) (sym codes) ∙ s.rest);
     }

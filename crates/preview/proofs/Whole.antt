@@ -8,7 +8,9 @@ use borrow.Author.Tests.{eqb-true, eqb-false, eq-eqb, ne_eqb, not-false}
 use lib.Dec.{eqb}
 use lib.ListN.{length, take}
 use lib.Seq.{take-add, take_all}
-use Rattle.answer.specs.Answer.{Answer, refused, given, number, after}
+use Rattle.std.proofs.lemmas.List.Folds.{list_any-append}
+use Rattle.std.proofs.Common.{Result, Ok, Err}
+use Rattle.answer.specs.Answer.{Answer, refused, given}
 use Rattle.answer.specs.Lists.{some, filled}
 use Rattle.answer.proofs.Cases.{by_test, both_true, both_false}
 use Rattle.rows.specs.Row.{Content}
@@ -24,10 +26,10 @@ use Rattle.originals.specs.Taken as carried
 use Rattle.table.specs.declared.Table.{Table}
 use Rattle.table.specs.Table.{most, no_announcement, no_original, agreed, table_start}
 use Rattle.preview.specs.declared.Programme.{Programme}
-use Rattle.preview.specs.declared.Reading.{Reading}
-use Rattle.preview.specs.declared.Verdict.{Verdict}
+use Rattle.preview.specs.declared.Page.{Page}
+use Rattle.preview.specs.declared.Refusal.{Refusal}
 use Rattle.preview.specs.Page.{row_of, too_high, all_permitted, programmes_by, agrees, Answers}
-use Rattle.preview.specs.Taken.{given_to, announced_in, originals_in, readable, answer_of, page_of, read_number, ReadAs}
+use Rattle.preview.specs.Taken.{given_to, announced_in, originals_in, readable, answer_of, page_of, read_number, reading_answer, paged, ReadAs}
 use Rattle.preview.specs.Rows.{row_taken, may_read, page_by}
 use Rattle.preview.proofs.Readings.{rows_contain, whole, answered}
 use Rattle.preview.proofs.Most.{marked_titles, announced_titled, rows_titled}
@@ -38,10 +40,6 @@ use Rattle.preview.proofs.Along.{is_high, table_of, row_taken_lem, start_is, wor
 unfoldable pub held_after : List ℕ → ℕ → Table
 held_after page r = table_of (some is_high (take (40 * r) page)) (given_to page r)
 
-some_append : {A : Type 0} (f : A → Bool) (xs ys : List A) → some f (xs ++ ys) ≡ (some f xs || some f ys)
-some_append f [] ys = refl
-some_append f (x ∷ xs) ys = by_test (f x) (λ t. rw t refl) (λ t. rw t (some_append f xs ys))
-
 pub none_held : (page : List ℕ) → table_start ≡ held_after page 0
 unfolding held_after given_to
 none_held page = start_is
@@ -51,7 +49,7 @@ unfolding held_after given_to row_taken row_given
 row_held page r =
     let on : 40 * suc r ≡ 40 * r + 40 = omega arith in
     row_taken_lem (row_of page r) (some is_high (take (40 * r) page)) (given_to page r) r row_start 0
-    ∙ rw (on, take-add (40 * r) 40 page, some_append is_high (take (40 * r) page) (row_of page r)) refl
+    ∙ rw (on, take-add (40 * r) 40 page, list_any-append is_high (take (40 * r) page) (row_of page r)) refl
 
 pub row_more : (page : List ℕ) (r : ℕ) {t next : Table} → t ≡ held_after page r → next ≡ row_taken r t (row_of page r) → next ≡ held_after page (r + 1)
 row_more page r e f =
@@ -115,9 +113,9 @@ page_given h xs f e =
     rw (count, all, them, programmes_many (announced_in xs) (originals_in xs) e) refl
 
 -- ── the answer ─────────────────────────────────────────────────────────────────────────────────────────────────────
--- a reader that gave the answer's number and programmes read it by the grammar
-pub read_as : (page : List ℕ) (r : Reading) (a : Answer (List Programme)) → answer_of page ≡ a → read_number r.verdict ≡ number a → r.page ≡ page_of (after [] a) → ReadAs page r
-read_as page r a e v g = (a, subst (Answers page) e (answered page), v, g)
+-- a reader that gave the answer's number or programmes read it by the grammar
+read_as : (page : List ℕ) (r : Result Page Refusal) (a : Answer (List Programme)) → answer_of page ≡ a → reading_answer r ≡ paged a → ReadAs page r
+read_as page r a e v = (a, subst (Answers page) e (answered page), v)
 
 pub answer_23 : (page : List ℕ) → (length page ≡ 960 → ⊥) → answer_of page ≡ refused 23
 unfolding answer_of
@@ -176,8 +174,8 @@ module _ (page : List ℕ) (l : length page ≡ 960) where
   page_read e = ap page_by (last_held page l) ∙ page_given (too_high page) (given_to page 24) (counts e).0 (counts e).1
 
 -- ── the exits of the reader ────────────────────────────────────────────────────────────────────────────────────────
-pub refused_as : (page : List ℕ) {v : Verdict} {r : Reading} → (r.verdict ≡ v) × (r.page ≡ page_of []) → answer_of page ≡ refused (read_number v) → ReadAs page r
-refused_as page {v} {r} h e = read_as page r (refused (read_number v)) e (ap read_number h.0) h.1
+pub refused_as : (page : List ℕ) (r : Refusal) → answer_of page ≡ refused (read_number r) → ReadAs page (Err r)
+refused_as page r e = read_as page (Err r) (refused (read_number r)) e refl
 
 -- what the rows have left, and whether it reads as programmes, as it is told
 pub record Rest (page : List ℕ) (t : Table) (told : Bool) : Type 0 where
@@ -202,7 +200,7 @@ module _ {page : List ℕ} {t : Table} {told : Bool} (e : Rest page t told) wher
   pub room : (t.high || not told) ≡ false → t.announcements.count ≤ 24
   room u = rw e.held (counted page e.sized (same_test ∙ u))
 
-  pub read_whole : (t.high || not told) ≡ false → agreed t.words t.sum ≡ true → (r : Reading) → read_number r.verdict ≡ 0 → r.page ≡ page_by t → ReadAs page r
-  read_whole u w r v p =
-      read_as page r _ (answer_read page e.sized (same_test ∙ u) (ap (λ (x : Table). agreed x.words x.sum) (sym e.held) ∙ w)) v
-      (p ∙ ap page_by e.held ∙ page_read page e.sized (same_test ∙ u))
+  pub read_whole : (t.high || not told) ≡ false → agreed t.words t.sum ≡ true → (told : Page) → told ≡ page_by t → ReadAs page (Ok told)
+  read_whole u w told p =
+      read_as page (Ok told) _ (answer_read page e.sized (same_test ∙ u) (ap (λ (x : Table). agreed x.words x.sum) (sym e.held) ∙ w))
+      (ap (λ (x : Page). given x) (p ∙ ap page_by e.held ∙ page_read page e.sized (same_test ∙ u)))

@@ -1,12 +1,12 @@
 -- What is claimed of a preview page. Proved in proofs/Proved.antt.
-use Rattle.std.specs.Prelude.{ℕ, ◌≤◌, true, false, cond, ◌≡◌, List, [], ◌∷◌, ◌++◌, length}
+use Rattle.std.specs.Prelude.{ℕ, ◌≤◌, true, false, cond, ◌≡◌, List, [], ◌∷◌, ◌++◌, length, Result}
 use Rattle.answer.specs.Answer.{Answer, refused, given, Unique}
 use Rattle.codes.specs.Codes.{SameButText}
 use Rattle.sums.specs.Counted.{sum_of, is_word}
 use Rattle.rows.specs.Row.{Content, format, title}
 use Rattle.preview.specs.declared.Programme.{Programme}
-use Rattle.preview.specs.declared.Verdict.{Verdict}
-use Rattle.preview.specs.declared.Reading as reader
+use Rattle.preview.specs.declared.Page as reader
+use Rattle.preview.specs.declared.Refusal.{Refusal}
 use Rattle.preview.specs.Page.{Reading, Reads, programmes_by, sum_in, agrees, Answers}
 use Rattle.preview.specs.Taken.{read_number, ReadAs}
 
@@ -36,5 +36,5 @@ pub record Laws : Type 0 where
   -- a page in which characters without effect are replaced by others, anywhere, reads the same
   pub text_changes_nothing : (p q : List ℕ) (a : Answer (List Programme)) → SameButText p q → Answers p a → Answers q a
   -- each call's promise allows one outcome
-  pub read_unique : (page : List ℕ) → Unique {A = reader.Reading × List ℕ} (λ o. ReadAs page o.0 × (o.1 ≡ page))
-  pub number_unique : (v : Verdict) → Unique (λ n. n ≡ read_number v)
+  pub read_unique : (page : List ℕ) → Unique {A = Result reader.Page Refusal × List ℕ} (λ o. ReadAs page o.0 × (o.1 ≡ page))
+  pub number_unique : (r : Refusal) → Unique (λ n. n ≡ read_number r)

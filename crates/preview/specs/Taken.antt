@@ -1,6 +1,6 @@
 -- A page taken one row at a time, and what is told of it. What counts as a reading is said in Page.antt; the laws say that this is the same.
-use Rattle.std.specs.Prelude.{ℕ, zero, suc, Bool, not, ◌&&◌, ◌||◌, ◌≡◌, List, [], ◌∷◌, ◌++◌, eqb, length}
-use Rattle.answer.specs.Answer.{Answer, Row, first_of, number, after}
+use Rattle.std.specs.Prelude.{ℕ, zero, suc, Bool, not, ◌&&◌, ◌||◌, ◌≡◌, List, [], ◌∷◌, ◌++◌, eqb, length, Result, Ok, Err}
+use Rattle.answer.specs.Answer.{Answer, refused, given, Row, first_of}
 use Rattle.answer.specs.Lists.{filled}
 use Rattle.rows.specs.Row.{Content}
 use Rattle.rows.specs.Taken.{row_given}
@@ -10,14 +10,13 @@ use Rattle.announced.specs.Times.{no_time, times_in}
 use Rattle.announced.specs.Taken as times
 use Rattle.originals.specs.declared.Original.{Original}
 use Rattle.originals.specs.Data.{data_in}
-use Rattle.originals.specs.Taken as given
+use Rattle.originals.specs.Taken as carried
 use Rattle.figures.specs.declared.Offset.TheVariants.{Plus}
 use Rattle.table.specs.Table.{most}
 use Rattle.preview.specs.declared.Programme.{Programme}
 use Rattle.preview.specs.declared.Page.{Page}
-use Rattle.preview.specs.declared.Reading.{Reading}
-use Rattle.preview.specs.declared.Verdict.{Verdict}
-use Rattle.preview.specs.declared.Verdict.TheVariants.{Length, Unreadable, WrongWord, Read}
+use Rattle.preview.specs.declared.Refusal.{Refusal}
+use Rattle.preview.specs.declared.Refusal.TheVariants.{Length, Unreadable, WrongWord}
 use Rattle.preview.specs.Page.{row_of, too_high, all_permitted, programmes_by, agrees, Answers}
 
 -- what is given out of the first n rows
@@ -30,14 +29,14 @@ abbrev pub announced_in : List Content → List Announcement
 announced_in xs = times.announced_from First (times_in xs)
 
 abbrev pub originals_in : List Content → List Original
-originals_in xs = given.originals_from given.data_start (data_in xs)
+originals_in xs = carried.originals_from carried.data_start (data_in xs)
 
 -- it reads as programmes
 unfoldable pub readable : List Content → Bool
 readable xs =
     all_permitted xs
     && (times.may_end (times.stage_from First (times_in xs))
-    && (given.may_end (given.data_from given.data_start (data_in xs)) && eqb (length (announced_in xs)) (length (originals_in xs))))
+    && (carried.may_end (carried.data_from carried.data_start (data_in xs)) && eqb (length (announced_in xs)) (length (originals_in xs))))
 
 -- '23 page not 960 bytes, 24 no reading, 25 protection word missing or wrong, in that order'
 abbrev pub page_rows : List ℕ → List Content → List Row
@@ -68,14 +67,22 @@ blank = record {
 unfoldable pub page_of : List Programme → Page
 page_of qs = record { count = length qs; programmes = filled most blank qs }
 
--- the paper's numbers, and 0 for what is read
-abbrev pub read_number : Verdict → ℕ
+-- the paper's numbers
+abbrev pub read_number : Refusal → ℕ
 read_number Length = 23
 read_number Unreadable = 24
 read_number WrongWord = 25
-read_number Read = 0
+
+-- what a reader told: the number of a refusal alone, or the page, or what is made of it
+abbrev pub reading_answer : {A : Type 0} → Result A Refusal → Answer A
+reading_answer (Err r) = refused (read_number r)
+reading_answer (Ok x) = given x
+
+-- an answer of the grammar, its programmes as a page
+abbrev pub paged : Answer (List Programme) → Answer Page
+paged (refused n) = refused n
+paged (given qs) = given (page_of qs)
 
 -- the answer that a reader gave, by the grammar
-abbrev pub ReadAs : List ℕ → Reading → Type 0
-ReadAs page r =
-    (a : Answer (List Programme)) × Answers page a × (read_number r.verdict ≡ number a) × (r.page ≡ page_of (after [] a))
+abbrev pub ReadAs : List ℕ → Result Page Refusal → Type 0
+ReadAs page r = (a : Answer (List Programme)) × Answers page a × (reading_answer r ≡ paged a)

@@ -1,8 +1,8 @@
 // A preview page of EN 300 231 clause 7.3.1: 24 rows of 40 characters, read into its programmes.
 #![tactic(auto)]
 
-ghost use Rattle.std.specs.Prelude.{true, ◌≡◌, []};
-ghost use Rattle.preview.specs.Taken.{page_of, read_number, ReadAs};
+ghost use Rattle.std.specs.Prelude.{true, ◌≡◌};
+ghost use Rattle.preview.specs.Taken.{read_number, ReadAs};
 ghost use Rattle.preview.specs.Laws.{Laws};
 
 use announced::Time;
@@ -35,71 +35,46 @@ pub struct Page {
     pub programmes: [Programme; 24],
 }
 
-// Why a page is not read, or that it is: refusals 23, 24 and 25.
-#[derive(Clone, Copy)]
-pub enum Verdict {
+// Why a page is not read: refusals 23, 24 and 25.
+#[derive(Clone, Copy, PartialEq, Eq)]
+pub enum Refusal {
     Length,
     Unreadable,
     WrongWord,
-    Read,
 }
 
-impl Verdict {
-    // The paper's number, or 0.
+impl Refusal {
+    // The paper's number.
     pub fn number(self) -> u8
         ensures { result ≡ read_number self }
     {
         match self {
-            Verdict::Length => 23,
-            Verdict::Unreadable => 24,
-            Verdict::WrongWord => 25,
-            Verdict::Read => 0,
+            Refusal::Length => 23,
+            Refusal::Unreadable => 24,
+            Refusal::WrongWord => 25,
         }
     }
 }
 
-// A page that is read; of a refused one no programme is told.
-#[derive(Clone, Copy)]
-pub struct Reading {
-    pub verdict: Verdict,
-    pub page: Page,
-}
-
-fn refused(verdict: Verdict) -> Reading
-    ensures { (result.verdict ≡ verdict) × (result.page ≡ page_of []) }
-{
-    Reading {
-        verdict,
-        page: paired::none(),
-    }
-}
-
-// One pass over the page, code by code; '23 .., 24 .., 25 .., in that order'.
-pub fn read(bytes: &[u8]) -> Reading
+// One pass over the page, code by code; '23 .., 24 .., 25 .., in that order', and of a refused page no programme is told.
+pub fn read(bytes: &[u8]) -> Result<Page, Refusal>
     ensures read_as { ReadAs bytes.now result }
     ensures bytes_value { bytes.exit.now ≡ bytes.entry.now }
 {
     if bytes.len() != 960 {
-        return refused(Verdict::Length);
+        return Err(Refusal::Length);
     }
     let mut t = Table::new();
-    let mut r: usize = 0;
-    while r < 24 {
-        let next = taking::take_row(bytes, r, t);
-        t = next;
-        r += 1;
+    for r in 0..24 {
+        t = taking::take_row(bytes, r, t);
     }
     if t.high | !taking::is_readable(t) {
-        return refused(Verdict::Unreadable);
+        return Err(Refusal::Unreadable);
     }
-    let words = t.words;
-    if !words.agree(t.sum) {
-        return refused(Verdict::WrongWord);
+    if !t.words.agree(t.sum) {
+        return Err(Refusal::WrongWord);
     }
-    Reading {
-        verdict: Verdict::Read,
-        page: paired::page_of(t),
-    }
+    Ok(paired::page_of(t))
 }
 
 // The laws of a page, as a promise of the crate.

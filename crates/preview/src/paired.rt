@@ -1,9 +1,9 @@
 // The programmes as they are given: a page's first `count` places, and blanks after them.
-ghost use Rattle.std.specs.Prelude.{◌≤◌, [], ◌≡◌, take};
+ghost use Rattle.std.specs.Prelude.{◌≤◌, ◌≡◌, take};
 ghost use Rattle.answer.specs.Lists.{filled};
 ghost use Rattle.table.specs.Table.{most};
 ghost use Rattle.preview.specs.Page.{programme_by, programmes_by};
-ghost use Rattle.preview.specs.Taken.{blank, page_of};
+ghost use Rattle.preview.specs.Taken.{blank};
 ghost use Rattle.preview.specs.Rows.{page_by};
 
 use crate::{Page, Programme};
@@ -30,27 +30,15 @@ fn blank() -> Programme
     }
 }
 
-pub(crate) fn none() -> Page
-    ensures { result ≡ page_of [] }
-{
-    Page {
-        count: 0,
-        programmes: [blank(); 24],
-    }
-}
-
 // 'The k-th belongs to the k-th.'
 fn programme_by(a: Announcement, o: Original) -> Programme
     ensures { result ≡ programme_by a o }
 {
-    let start = a.start;
-    let finish = a.finish;
-    let offset = o.offset;
     Programme {
         row: a.row,
         column: a.column,
-        start,
-        finish,
+        start: a.start,
+        finish: a.finish,
         network: o.network,
         day: o.day,
         month: o.month,
@@ -59,7 +47,7 @@ fn programme_by(a: Announcement, o: Original) -> Programme
             hour: o.hour,
             minute: o.minute,
         },
-        offset,
+        offset: o.offset,
         pty: o.pty,
     }
 }
@@ -69,12 +57,8 @@ fn programmes(n: usize, a: [Announcement; 24], o: [Original; 24]) -> [Programme;
     ensures { result ≡ filled most blank (programmes_by (take n a) (take n o)) }
 {
     let mut out = [blank(); 24];
-    let mut i: usize = 0;
-    while i < n {
-        let x = a[i];
-        let y = o[i];
-        out[i] = programme_by(x, y);
-        i += 1;
+    for i in 0..n {
+        out[i] = programme_by(a[i], o[i]);
     }
     out
 }
@@ -84,13 +68,9 @@ pub(crate) fn page_of(t: Table) -> Page
     requires { t.announcements.count ≤ 24 }
     ensures { result ≡ page_by t }
 {
-    let announcements = t.announcements;
-    let originals = t.originals;
-    let a = announcements.places;
-    let o = originals.places;
-    let count = announcements.count;
+    let count = t.announcements.count;
     Page {
         count,
-        programmes: programmes(count, a, o),
+        programmes: programmes(count, t.announcements.places, t.originals.places),
     }
 }

@@ -21,6 +21,7 @@ fn pair_at(bytes: &[u8], r: usize, p: usize) -> bool
 }
 
 // A title's place is that of its text, behind the pair.
+#[tactic(auto, unfolding(crate::specs::Rows::with_given_out))]
 fn given_out(t: Table, row: u8, column: u8, titled: bool, text: bool, f: Found) -> Table
     requires { column < 40 }
     ensures { result ≡ with_given_out t row column titled text f }
@@ -42,26 +43,20 @@ pub(crate) fn take_row(bytes: &[u8], r: usize, table: Table) -> Table
     let row = r as u8;
     let mut t = table;
     let mut x = Row::new();
-    let mut p: usize = 0;
-    while p < 40 {
+    for p in 0..40 {
         let c = bytes[40 * r + p];
         let pair = pair_at(bytes, r, p);
         let found = x.found(codes::is_mark(c));
-        let v = found.value;
-        let text = rows::is_text(v);
+        let text = rows::is_text(found.value);
         let titled = x.titled(pair, text);
-        let next = x.next(c, p as u8, pair, text);
         // Most codes give nothing out, and then the table is not copied.
         if titled | (!text | (127 < c)) {
-            let given = given_out(t, row, x.column, titled, text, found);
-            t = given.coded(c);
+            t = given_out(t, row, x.column, titled, text, found).coded(c);
         }
-        x = next;
-        p += 1;
+        x = x.next(c, p as u8, pair, text);
     }
     let found = x.found(true);
-    let v = found.value;
-    let text = rows::is_text(v);
+    let text = rows::is_text(found.value);
     let titled = x.titled(true, text);
     given_out(t, row, x.column, titled, text, found)
 }
@@ -71,9 +66,5 @@ pub(crate) fn take_row(bytes: &[u8], r: usize, table: Table) -> Table
 pub(crate) fn is_readable(t: Table) -> bool
     ensures { result ≡ may_read t }
 {
-    let stage = t.stage;
-    let carried = t.carried;
-    let announcements = t.announcements;
-    let originals = t.originals;
-    !t.wrong & (stage.ends() & (carried.ends() & (announcements.count == originals.count)))
+    !t.wrong & (t.stage.ends() & (t.carried.ends() & (t.announcements.count == t.originals.count)))
 }

@@ -15,10 +15,9 @@ ghost use Rattle.probe.specs.Plain.{nibble_number, byte_or, received_bytes, labe
 ghost use Rattle.probe.specs.Plain.{triplet_number};
 
 use answer::{pair, triple};
-use calendar::Validity;
-use hamming::{Coded, Nibble};
+use hamming::Nibble;
 use label::pil::Service;
-use label::{Label, Reading, Received};
+use label::{Label, Received};
 use triplet::Triplet;
 
 // The answer where the bytes lent for a label are more or fewer: no number of the paper.
@@ -29,8 +28,7 @@ const WRONG_ROOM: u8 = 255;
 pub extern "C" fn probe_decode(b: u8) -> u8
     ensures { result ≡ nibble_number (nibble_of b) }
 {
-    let n = hamming::decode(b);
-    match n {
+    match hamming::decode(b) {
         Nibble::Damaged => 16,
         Nibble::Clean(v) => v,
         Nibble::Mended(v) => 32 + v,
@@ -41,10 +39,9 @@ pub extern "C" fn probe_decode(b: u8) -> u8
 pub extern "C" fn probe_encode(v: u8) -> u16
     ensures { result ≡ byte_or (coding_of v) }
 {
-    let c = hamming::encode(v);
-    match c {
-        Coded::TooWide => 4096,
-        Coded::Byte(b) => b as u16,
+    match hamming::encode(v) {
+        None => 4096,
+        Some(b) => u16::from(b),
     }
 }
 
@@ -78,10 +75,9 @@ pub extern "C" fn probe_read(bytes: &[u8], out: &mut [u8]) -> u8
     if out.len() != 14 {
         return WRONG_ROOM;
     }
-    let r = reader::read(bytes);
-    match r {
-        Reading::Refused(why) => why.number(),
-        Reading::Read(got) => {
+    match reader::read(bytes) {
+        Err(why) => why.number(),
+        Ok(got) => {
             fill(got, out);
             0
         }
@@ -92,8 +88,6 @@ fn label_of(f: &[u8]) -> Label
     requires { length f.now ≡ 13 }
     ensures { result ≡ label_of f.now }
 {
-    let cni = pair(f[7], f[8]);
-    let pil = triple(f[9], f[10], f[11]);
     Label {
         designation: f[0],
         lci: f[1],
@@ -102,8 +96,8 @@ fn label_of(f: &[u8]) -> Label
         pcs: f[4],
         mi: f[5],
         spare: f[6],
-        cni: cni,
-        pil: pil,
+        cni: pair(f[7], f[8]),
+        pil: triple(f[9], f[10], f[11]),
         pty: f[12],
     }
 }
@@ -116,17 +110,14 @@ pub extern "C" fn probe_write(fields: &[u8], buf: &mut [u8]) -> u8
     if fields.len() != 13 {
         return WRONG_ROOM;
     }
-    let l = label_of(fields);
-    let w = writer::write(l, buf);
-    w.number()
+    label::written_number(writer::write(label_of(fields), buf))
 }
 
 #[unsafe(no_mangle)]
 pub extern "C" fn probe_service(pil: u32) -> u8
     ensures { result ≡ service_number (service_of pil) }
 {
-    let s = label::pil::service_of(pil);
-    match s {
+    match label::pil::service_of(pil) {
         Service::Programme => 0,
         Service::TimerControl => 1,
         Service::InhibitTerminate => 2,
@@ -141,10 +132,9 @@ pub extern "C" fn probe_service(pil: u32) -> u8
 pub extern "C" fn probe_window(pil: u32, year: u8) -> u64
     ensures { result ≡ window_or (window_in pil year) }
 {
-    let v = calendar::window_of(pil, year);
-    match v {
-        Validity::Refused => 11,
-        Validity::Given(w) => w.opens as u64 * 4294967296 + w.closes as u64,
+    match calendar::window_of(pil, year) {
+        None => 11,
+        Some(w) => u64::from(w.opens) * 4294967296 + u64::from(w.closes),
     }
 }
 
@@ -165,10 +155,9 @@ pub extern "C" fn probe_triplet(a: u8, b: u8, c: u8) -> u32
 pub extern "C" fn probe_triplet_word(v: u32) -> u32
     ensures { result ≡ plain 16777216 (word.coding_of v) }
 {
-    let c = triplet::encode(v);
-    match c {
-        triplet::Coded::TooWide => 318767104,
-        triplet::Coded::Word(w) => w,
+    match triplet::encode(v) {
+        None => 318767104,
+        Some(w) => w,
     }
 }
 

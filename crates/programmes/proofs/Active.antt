@@ -4,6 +4,7 @@ use mathlib.Core.Path.{◌≡◌, refl}
 use mathlib.Core.Bool.{Bool, true, false, cond, not, ◌&&◌}
 use mathlib.Core.List.{List, [], ◌∷◌, ◌++◌}
 use lib.ListN.{replicate}
+use Rattle.std.specs.Option.{is_some}
 use Rattle.answer.proofs.Cases.{both_false}
 use Rattle.answer.proofs.Every.{All}
 use Rattle.group.specs.declared.Group.{Group}
@@ -30,7 +31,7 @@ lacks_less f (g ∷ xs) ys e = go (is_terminator g) (is_other g) e (λ h k. lack
     go true o e k = refl
     go false true e k = k f e
     go false false e k =
-        let b = both_false (is_start g && not (f.sourced && f.dated)) (lacks (in_force f g) (active (xs ++ ys))) e in
+        let b = both_false (is_start g && not (is_some f.source && is_some f.date)) (lacks (in_force f g) (active (xs ++ ys))) e in
         rw b.0 (k (in_force f g) b.1)
 
 -- of a terminator nothing after it counts

@@ -1,7 +1,8 @@
 -- The groups that programmes are written as mean those programmes.
+use Rattle.std.specs.Prelude.{Option, None, Some}
 use Prim.Native.Nat.{ℕ}
 use mathlib.Core.Path.{◌≡◌, refl, sym, ap, ap₂, ◌∙◌}
-use mathlib.Core.Bool.{Bool, true, false, cond, ◌&&◌}
+use mathlib.Core.Bool.{Bool, true, false, cond}
 use mathlib.Core.List.{List, [], ◌∷◌, ◌++◌, append_assoc}
 use borrow.Author.Tests.{eqb-true}
 use lib.Dec.{eqb}
@@ -13,32 +14,32 @@ use Rattle.group.specs.declared.Group.{Group}
 use Rattle.group.specs.declared.Group.TheVariants as group
 use Rattle.programmes.specs.declared.Finish.{Finish}
 use Rattle.programmes.specs.declared.Finish.TheVariants as finish
-use Rattle.programmes.specs.declared.Series.{Series}
-use Rattle.programmes.specs.declared.Series.TheVariants as series
 use Rattle.programmes.specs.declared.Programme.{Programme}
 use Rattle.programmes.specs.declared.InForce.{InForce}
 use Rattle.programmes.specs.Meaning.{in_force, lacks, own, finish_in, series_in, programme_by, programmes_in}
-use Rattle.programmes.specs.Written.{same_offset, same_source, same_date, source_sent, date_sent, offset_sent, pair_sent, finish_sent, series_sent, groups_of, force_of, groups_from}
+use Rattle.programmes.specs.Written.{same_offset, is_pair, same_source, same_date, source_sent, date_sent, offset_sent, pair_sent, finish_sent, series_sent, groups_of, force_of, groups_from}
 
 -- ── what does not change is in force ───────────────────────────────────────────────────────────────────────────────
 -- where the test of a source, a date or an offset passes, its group would change nothing
+same_pair : (x : Option (ℕ × ℕ)) (a b : ℕ) → is_pair x a b ≡ true → x ≡ Some (a, b)
+same_pair None a b e = no_way (sym e)
+same_pair (Some p) a b e =
+    let t = both_true (eqb p.0 a) (eqb p.1 b) e in
+    let m = eqb-true p.0 a t.0 in
+    let n = eqb-true p.1 b t.1 in
+    λ i. Some (m i, n i)
+
 same_source_lem : (f : InForce) (q : Programme) → same_source f q ≡ true → f ≡ in_force f (group.Source q.country q.source)
 unfolding in_force
 same_source_lem f q e =
-    let a = both_true (f.sourced && eqb f.country q.country) (eqb f.source q.source) e in
-    let b = both_true f.sourced (eqb f.country q.country) a.0 in
-    let c = eqb-true f.country q.country b.1 in
-    let s = eqb-true f.source q.source a.1 in
-    λ i. record { sourced = b.0 i; country = c i; source = s i; dated = f.dated; month = f.month; day = f.day; offset = f.offset }
+    let s = same_pair f.source q.country q.source e in
+    λ i. record { source = s i; date = f.date; offset = f.offset }
 
 same_date_lem : (f : InForce) (q : Programme) → same_date f q ≡ true → f ≡ in_force f (group.Date q.month q.day)
 unfolding in_force
 same_date_lem f q e =
-    let a = both_true (f.dated && eqb f.month q.month) (eqb f.day q.day) e in
-    let b = both_true f.dated (eqb f.month q.month) a.0 in
-    let m = eqb-true f.month q.month b.1 in
-    let d = eqb-true f.day q.day a.1 in
-    λ i. record { sourced = f.sourced; country = f.country; source = f.source; dated = b.0 i; month = m i; day = d i; offset = f.offset }
+    let d = same_pair f.date q.month q.day e in
+    λ i. record { source = f.source; date = d i; offset = f.offset }
 
 -- two offsets that the test finds the same are
 same_quarters : (a b : Offset) → same_offset a b ≡ true → a ≡ b
@@ -51,7 +52,7 @@ same_offset_lem : (f : InForce) (q : Programme) → same_offset f.offset q.offse
 unfolding in_force
 same_offset_lem f q e =
     let o = same_quarters f.offset q.offset e in
-    λ i. record { sourced = f.sourced; country = f.country; source = f.source; dated = f.dated; month = f.month; day = f.day; offset = o i }
+    λ i. record { source = f.source; date = f.date; offset = o i }
 
 -- ── before a pair ──────────────────────────────────────────────────────────────────────────────────────────────────
 -- what is made of groups, where a source, a date or an offset only comes into force
@@ -119,7 +120,7 @@ finish_after f (q ∷ qs) x =
     at_pair (λ f gs. finish_in x (own gs)) (record { source = λ f c s gs. refl; date = λ f m d gs. refl; offset = λ f r o gs. refl })
     f q (groups_from (force_of q) qs)
 
-series_after : (f : InForce) (qs : List Programme) (x : Series) → series_in x (own (groups_from f qs)) ≡ x
+series_after : (f : InForce) (qs : List Programme) (x : Option ℕ) → series_in x (own (groups_from f qs)) ≡ x
 unfolding groups_from own series_in
 series_after f [] x = refl
 series_after f (q ∷ qs) x =
@@ -127,36 +128,36 @@ series_after f (q ∷ qs) x =
     f q (groups_from (force_of q) qs)
 
 -- the groups after a pair have the finish and the series that are sent
-finish_own : (row column minute : ℕ) (x : Finish) (y : Series) (gs : List Group) →
+finish_own : (row column minute : ℕ) (x : Finish) (y : Option ℕ) (gs : List Group) →
     finish_in finish.Absent (own (group.Minutes column minute ∷ (finish_sent row column x ++ (series_sent y ++ gs)))) ≡ finish_in x (own gs)
 unfolding own finish_in
-finish_own row column minute finish.Absent series.Absent gs = refl
-finish_own row column minute finish.Absent (series.Code k) gs = refl
-finish_own row column minute (finish.Time h m) series.Absent gs = refl
-finish_own row column minute (finish.Time h m) (series.Code k) gs = refl
-finish_own row column minute (finish.Duration h m) series.Absent gs = refl
-finish_own row column minute (finish.Duration h m) (series.Code k) gs = refl
+finish_own row column minute finish.Absent None gs = refl
+finish_own row column minute finish.Absent (Some k) gs = refl
+finish_own row column minute (finish.Time h m) None gs = refl
+finish_own row column minute (finish.Time h m) (Some k) gs = refl
+finish_own row column minute (finish.Duration h m) None gs = refl
+finish_own row column minute (finish.Duration h m) (Some k) gs = refl
 
-series_own : (row column minute : ℕ) (x : Finish) (y : Series) (gs : List Group) →
-    series_in series.Absent (own (group.Minutes column minute ∷ (finish_sent row column x ++ (series_sent y ++ gs)))) ≡ series_in y (own gs)
+series_own : (row column minute : ℕ) (x : Finish) (y : Option ℕ) (gs : List Group) →
+    series_in None (own (group.Minutes column minute ∷ (finish_sent row column x ++ (series_sent y ++ gs)))) ≡ series_in y (own gs)
 unfolding own series_in
-series_own row column minute finish.Absent series.Absent gs = refl
-series_own row column minute finish.Absent (series.Code k) gs = refl
-series_own row column minute (finish.Time h m) series.Absent gs = refl
-series_own row column minute (finish.Time h m) (series.Code k) gs = refl
-series_own row column minute (finish.Duration h m) series.Absent gs = refl
-series_own row column minute (finish.Duration h m) (series.Code k) gs = refl
+series_own row column minute finish.Absent None gs = refl
+series_own row column minute finish.Absent (Some k) gs = refl
+series_own row column minute (finish.Time h m) None gs = refl
+series_own row column minute (finish.Time h m) (Some k) gs = refl
+series_own row column minute (finish.Duration h m) None gs = refl
+series_own row column minute (finish.Duration h m) (Some k) gs = refl
 
 -- and begin no programme
-none_begun : (f : InForce) (row column : ℕ) (x : Finish) (y : Series) (gs : List Group) →
+none_begun : (f : InForce) (row column : ℕ) (x : Finish) (y : Option ℕ) (gs : List Group) →
     programmes_in f (finish_sent row column x ++ (series_sent y ++ gs)) ≡ programmes_in f gs
 unfolding programmes_in in_force
-none_begun f row column finish.Absent series.Absent gs = refl
-none_begun f row column finish.Absent (series.Code k) gs = refl
-none_begun f row column (finish.Time h m) series.Absent gs = refl
-none_begun f row column (finish.Time h m) (series.Code k) gs = refl
-none_begun f row column (finish.Duration h m) series.Absent gs = refl
-none_begun f row column (finish.Duration h m) (series.Code k) gs = refl
+none_begun f row column finish.Absent None gs = refl
+none_begun f row column finish.Absent (Some k) gs = refl
+none_begun f row column (finish.Time h m) None gs = refl
+none_begun f row column (finish.Time h m) (Some k) gs = refl
+none_begun f row column (finish.Duration h m) None gs = refl
+none_begun f row column (finish.Duration h m) (Some k) gs = refl
 
 -- ── the programmes ─────────────────────────────────────────────────────────────────────────────────────────────────
 -- the pair makes the programme with its finish and series
@@ -169,10 +170,10 @@ made q qs =
     let after = group.Minutes q.column q.minute ∷ (finish_sent q.row q.column q.finish ++ (series_sent q.series ++ gs)) in
     let x : finish_in finish.Absent (own after) ≡ q.finish =
     finish_own q.row q.column q.minute q.finish q.series gs ∙ finish_after (force_of q) qs q.finish in
-    let y : series_in series.Absent (own after) ≡ q.series =
+    let y : series_in None (own after) ≡ q.series =
     series_own q.row q.column q.minute q.finish q.series gs ∙ series_after (force_of q) qs q.series in
     ap₂ (λ (p : Programme) (ps : List Programme). p ∷ ps)
-    (ap₂ (λ (a : Finish) (b : Series). programme_by (force_of q) q.row q.hour q.controlled q.column q.minute a b) x y)
+    (ap₂ (λ (a : Finish) (b : Option ℕ). programme_by (force_of q) q.row q.hour q.controlled q.column q.minute a b) x y)
     (none_begun (force_of q) q.row q.column q.finish q.series gs)
 
 -- what programmes are written as means them
@@ -185,15 +186,15 @@ meant f (q ∷ qs) =
     ∙ made q qs ∙ ap (λ (ps : List Programme). q ∷ ps) (meant (force_of q) qs)
 
 -- the finish and the series lack no source and no date
-none_lacking : (f : InForce) (row column : ℕ) (x : Finish) (y : Series) (gs : List Group) →
+none_lacking : (f : InForce) (row column : ℕ) (x : Finish) (y : Option ℕ) (gs : List Group) →
     lacks f (finish_sent row column x ++ (series_sent y ++ gs)) ≡ lacks f gs
 unfolding lacks in_force
-none_lacking f row column finish.Absent series.Absent gs = refl
-none_lacking f row column finish.Absent (series.Code k) gs = refl
-none_lacking f row column (finish.Time h m) series.Absent gs = refl
-none_lacking f row column (finish.Time h m) (series.Code k) gs = refl
-none_lacking f row column (finish.Duration h m) series.Absent gs = refl
-none_lacking f row column (finish.Duration h m) (series.Code k) gs = refl
+none_lacking f row column finish.Absent None gs = refl
+none_lacking f row column finish.Absent (Some k) gs = refl
+none_lacking f row column (finish.Time h m) None gs = refl
+none_lacking f row column (finish.Time h m) (Some k) gs = refl
+none_lacking f row column (finish.Duration h m) None gs = refl
+none_lacking f row column (finish.Duration h m) (Some k) gs = refl
 
 -- nor does what programmes are written as
 pub lacks_none : (f : InForce) (qs : List Programme) → lacks f (groups_from f qs) ≡ false

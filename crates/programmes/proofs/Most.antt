@@ -7,6 +7,7 @@ use native.Mathlib.Omega.{arith}
 use native.Mathlib.Decide.{dec_lt}
 use borrow.Author.Tests.{not-false, ltb-false}
 use lib.ListN.{length, length-append}
+use Rattle.std.specs.Option.{is_some}
 use Rattle.answer.specs.Answer.{given}
 use Rattle.answer.proofs.Cases.{both_true, both_false}
 use Rattle.answer.proofs.Counts.{bit_le}
@@ -42,10 +43,10 @@ bit t = cond t 1 0
 
 -- how many of source and date have yet to come
 abbrev yet : InForce → ℕ
-yet f = bit (not f.sourced) + bit (not f.dated)
+yet f = bit (not (is_some f.source)) + bit (not (is_some f.date))
 
-at_most_one : (f : InForce) → (bit (not f.sourced) ≤ 1) × (bit (not f.dated) ≤ 1)
-at_most_one f = (bit_le (not f.sourced), bit_le (not f.dated))
+at_most_one : (f : InForce) → (bit (not (is_some f.source)) ≤ 1) × (bit (not (is_some f.date)) ≤ 1)
+at_most_one f = (bit_le (not (is_some f.source)), bit_le (not (is_some f.date)))
 
 -- n programmes, where there is one, take two groups each, and m others are needed
 record Room (n m size : ℕ) : Type 0 where
@@ -88,8 +89,8 @@ takes f (group.Source c s ∷ gs) e = pass (omega (arith, at_most_one f)) (takes
 takes f (group.Date m d ∷ gs) e = pass (omega (arith, at_most_one f)) (takes (in_force f (group.Date m d)) gs e)
 takes f (group.Offset r o ∷ gs) e = pass (omega (arith, at_most_one f)) (takes (in_force f (group.Offset r o)) gs e)
 takes f (group.Start r h c ∷ gs) e =
-    let none-lacks = both_false (not (f.sourced && f.dated)) (lacks f gs) e in
-    let come = both_true f.sourced f.dated (not-false (f.sourced && f.dated) none-lacks.0) in
+    let none-lacks = both_false (not (is_some f.source && is_some f.date)) (lacks f gs) e in
+    let come = both_true (is_some f.source) (is_some f.date) (not-false (is_some f.source && is_some f.date) none-lacks.0) in
     started f r h c gs (next_in gs) (rw (come.0, come.1)) (next_in_lem gs) (takes f gs none-lacks.1)
 takes f (group.Minutes c m ∷ gs) e = pass (omega (arith, at_most_one f)) (takes (in_force f (group.Minutes c m)) gs e)
 takes f (group.Finish r h d ∷ gs) e = pass (omega (arith, at_most_one f)) (takes (in_force f (group.Finish r h d)) gs e)

@@ -8,7 +8,7 @@ use lib.Dec.{ltb}
 use Rattle.answer.proofs.Cases.{both_false}
 use Rattle.label.specs.Pil.{parts_of}
 use Rattle.programmes.specs.declared.Programme.{Programme}
-use Rattle.programmes.specs.declared.pil.Pil.TheVariants.{NoPil, Label}
+use Rattle.std.specs.Prelude.{None, Some}
 use Rattle.programmes.specs.Timer.{spills, labelled, pil_of}
 
 abbrev Parts : Programme → ℕ → Type 0
@@ -33,12 +33,12 @@ narrow q e =
       minute = ltb-false 63 q.minute h.1;
     }
 
-pub parts : (q : Programme) (pil : ℕ) → pil_of q ≡ Label pil →
+pub parts : (q : Programme) (pil : ℕ) → pil_of q ≡ Some pil →
     (pil < 1048576) × (parts_of pil ≡ record { day = q.day; month = q.month; hour = q.hour; minute = q.minute })
 unfolding pil_of
 parts q pil = go (spills q) refl
   where
-    go : (t : Bool) → spills q ≡ t → cond t NoPil (Label (labelled q)) ≡ Label pil → (pil < 1048576) × Parts q pil
+    go : (t : Bool) → spills q ≡ t → cond t None (Some (labelled q)) ≡ Some pil → (pil < 1048576) × Parts q pil
     go true s e = absurd (let z : ◌≡◌ {A = ℕ} 0 1 = cc in omega arith)
     go false t e =
         let f : labelled q ≡ pil = cc in
@@ -51,7 +51,7 @@ parts q pil = go (spills q) refl
         (omega arith, rw (d, m, h, i))
 
 -- and where it has none, no PIL has its parts
-pub no_parts : (q : Programme) → pil_of q ≡ NoPil → (pil : ℕ) →
+pub no_parts : (q : Programme) → pil_of q ≡ None → (pil : ℕ) →
     (parts_of pil ≡ record { day = q.day; month = q.month; hour = q.hour; minute = q.minute }) → ⊥
 unfolding pil_of
 no_parts q e pil h = go (fits (ap (λ a. a.day) h) (ap (λ a. a.month) h) (ap (λ a. a.hour) h) (ap (λ a. a.minute) h))
@@ -65,4 +65,4 @@ no_parts q e pil h = go (fits (ap (λ a. a.day) h) (ap (λ a. a.month) h) (ap (�
         rw (within-day, within-month, within-hour) (le-ltb 63 q.minute (omega arith))
 
     go : spills q ≡ false → ⊥
-    go s = let f : cond false NoPil (Label (labelled q)) ≡ NoPil = rw s at e in let z : ◌≡◌ {A = ℕ} 0 1 = cc in omega arith
+    go s = let f : cond false None (Some (labelled q)) ≡ None = rw s at e in let z : ◌≡◌ {A = ℕ} 0 1 = cc in omega arith

@@ -9,7 +9,7 @@ use Rattle.programmes.proofs.Seventeen.{first_17}
 use Rattle.programmes.proofs.Most.{at_most_103, whole}
 use Rattle.programmes.proofs.Active.{nothing_after}
 use Rattle.programmes.proofs.Parts.{parts, no_parts}
-use Rattle.programmes.proofs.Numbers.{read_number_unique, written_number_unique, pil_unique}
+use Rattle.programmes.proofs.Numbers.{read_number_unique, refusal_number_unique, written_number_unique, pil_unique}
 
 pub laws : Laws
 laws = record {
@@ -28,6 +28,7 @@ laws = record {
   blank_unique = equation blank;
   nothing_unique = equation nothing;
   read_number_unique = read_number_unique;
+  refusal_number_unique = refusal_number_unique;
   written_number_unique = written_number_unique;
   pil_unique = pil_unique;
 }

@@ -1,4 +1,5 @@
 -- Every group of programmes whose fields are in their ranges counts, and its numbers fit its bits.
+use Rattle.std.specs.Prelude.{Option, None, Some}
 use Prim.Native.Nat.{ℕ, ◌≤◌}
 use mathlib.Core.Path.{◌≡◌, refl}
 use mathlib.Core.Bool.{Bool, true, false, cond, ◌||◌}
@@ -16,8 +17,6 @@ use Rattle.group.specs.declared.Group.TheVariants as group
 use Rattle.group.specs.Laws.{is_row_number, fits_offset, fits}
 use Rattle.programmes.specs.declared.Finish.{Finish}
 use Rattle.programmes.specs.declared.Finish.TheVariants as finish
-use Rattle.programmes.specs.declared.Series.{Series}
-use Rattle.programmes.specs.declared.Series.TheVariants as series
 use Rattle.programmes.specs.declared.Programme.{Programme}
 use Rattle.programmes.specs.declared.InForce.{InForce}
 use Rattle.programmes.specs.Meaning.{is_terminator, is_other}
@@ -124,9 +123,9 @@ module _ (q : Programme) (w : Within q) where
       let b = both_false (ltb 39 h) (ltb 59 m) e in
       ((refl, refl, rw (row_fits, le-leb h 39 (ltb-false 39 h b.0))), (minutes_fit m (ltb-false 59 m b.1), tt))
 
-  series_fits : (x : Series) → outside_series x ≡ false → All Sendable (series_sent x)
-  series_fits series.Absent e = tt
-  series_fits (series.Code k) e = ((refl, refl, le-leb k 127 (ltb-false 127 k e)), tt)
+  series_fits : (x : Option ℕ) → outside_series x ≡ false → All Sendable (series_sent x)
+  series_fits None e = tt
+  series_fits (Some k) e = ((refl, refl, le-leb k 127 (ltb-false 127 k e)), tt)
 
   -- all the groups of the programme
   groups_fit : (f : InForce) → All Sendable (groups_of f q)

@@ -1,5 +1,5 @@
 -- What is claimed of a page's programmes. Proved in proofs/Proved.antt.
-use Rattle.std.specs.Prelude.{ℕ, ◌+◌, ◌*◌, ◌≤◌, ◌<◌, ◌≡◌, true, List, ◌∷◌, ◌++◌, length, get_or, take}
+use Rattle.std.specs.Prelude.{ℕ, ◌+◌, ◌*◌, ◌≤◌, ◌<◌, ◌≡◌, true, List, ◌∷◌, ◌++◌, length, get_or, take, None, Some, Result}
 use Rattle.answer.specs.Answer.{Answer, refused, given, and_then, first_of, Unique}
 use Rattle.answer.specs.Lists.{member}
 use Rattle.hamming.specs.Byte as byte
@@ -8,12 +8,11 @@ use Rattle.label.specs.Pil.{parts_of}
 use Rattle.group.specs.declared.Group.{Group}
 use Rattle.group.specs.declared.Group.TheVariants.{Terminator}
 use Rattle.programmes.specs.declared.Programme.{Programme}
-use Rattle.programmes.specs.declared.Verdict.{Verdict}
-use Rattle.programmes.specs.declared.Written.{Written}
-use Rattle.programmes.specs.declared.pil.Pil.TheVariants.{NoPil, Label}
+use Rattle.programmes.specs.declared.Refusal.{Refusal}
+use Rattle.programmes.specs.declared.WriteRefusal.{WriteRefusal}
 use Rattle.programmes.specs.Meaning.{active, nothing}
 use Rattle.programmes.specs.Page.{byte_at, packets_of, addressed, thirteen, most, rows_to, blank, reading_of, read_number}
-use Rattle.programmes.specs.Written.{Wrote, writing_of, written_number}
+use Rattle.programmes.specs.Written.{Wrote, writing_of, refusal_number, written_number}
 use Rattle.programmes.specs.Timer.{pil_of}
 
 -- word j of packet k
@@ -79,14 +78,15 @@ pub record Laws : Type 0 where
   -- of a terminator nothing after it counts
   pub nothing_after : (gs hs : List Group) → active (gs ++ (Terminator ∷ hs)) ≡ active gs
   -- the PIL of a programme has its day, month, hour and minute
-  pub parts : (q : Programme) (pil : ℕ) → pil_of q ≡ Label pil →
+  pub parts : (q : Programme) (pil : ℕ) → pil_of q ≡ Some pil →
       (pil < 1048576) × (parts_of pil ≡ record { day = q.day; month = q.month; hour = q.hour; minute = q.minute })
   -- and where it has none, no PIL has them
-  pub no_parts : (q : Programme) → pil_of q ≡ NoPil → (pil : ℕ) →
+  pub no_parts : (q : Programme) → pil_of q ≡ None → (pil : ℕ) →
       parts_of pil ≡ record { day = q.day; month = q.month; hour = q.hour; minute = q.minute } → ⊥
   -- each call's promise allows one outcome
   pub blank_unique : Unique (λ r. r ≡ blank)
   pub nothing_unique : Unique (λ r. r ≡ nothing)
-  pub read_number_unique : (v : Verdict) → Unique (λ n. n ≡ read_number v)
-  pub written_number_unique : (w : Written) → Unique (λ n. n ≡ written_number w)
+  pub read_number_unique : (r : Refusal) → Unique (λ n. n ≡ read_number r)
+  pub refusal_number_unique : (r : WriteRefusal) → Unique (λ n. n ≡ refusal_number r)
+  pub written_number_unique : (w : Result ℕ WriteRefusal) → Unique (λ n. n ≡ written_number w)
   pub pil_unique : (q : Programme) → Unique (λ r. r ≡ pil_of q)

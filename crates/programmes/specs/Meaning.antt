@@ -1,12 +1,11 @@
 -- What a page's data groups mean, in the order in which they are sent: EN 300 231 clause 7.3.2.3 b) (document 02, #103).
-use Rattle.std.specs.Prelude.{ℕ, Bool, true, false, cond, not, ◌&&◌, ◌||◌, List, [], ◌∷◌, ◌++◌}
+use Rattle.std.specs.Prelude.{ℕ, Bool, true, false, cond, not, ◌&&◌, ◌||◌, List, [], ◌∷◌, ◌++◌, Option, None, Some}
+use Rattle.std.specs.Option.{is_some, unwrap_or}
 use Rattle.group.specs.declared.Offset.TheVariants.{East}
 use Rattle.group.specs.declared.Group.{Group}
 use Rattle.group.specs.declared.Group.TheVariants as group
 use Rattle.programmes.specs.declared.Finish.{Finish}
 use Rattle.programmes.specs.declared.Finish.TheVariants as finish
-use Rattle.programmes.specs.declared.Series.{Series}
-use Rattle.programmes.specs.declared.Series.TheVariants as series
 use Rattle.programmes.specs.declared.Programme.{Programme}
 use Rattle.programmes.specs.declared.InForce.{InForce}
 
@@ -52,17 +51,14 @@ active (g ∷ gs) = cond (is_terminator g) [] (cond (is_other g) (active gs) (g 
 -- ── what is in force ───────────────────────────────────────────────────────────────────────────────────────────────
 -- before the first group: no source, no date, and 'in the case that no LTO is transmitted, UTC is presumed'
 abbrev pub nothing : InForce
-nothing = record { sourced = false; country = 0; source = 0; dated = false; month = 0; day = 0; offset = East 0 }
+nothing = record { source = None; date = None; offset = East 0 }
 
 -- 'these three data groups activate their functions in the sequence and remain until redefined'
 unfoldable pub in_force : InForce → Group → InForce
 in_force f group.Other = f
-in_force f (group.Source c s) =
-    record { sourced = true; country = c; source = s; dated = f.dated; month = f.month; day = f.day; offset = f.offset }
-in_force f (group.Date m d) =
-    record { sourced = f.sourced; country = f.country; source = f.source; dated = true; month = m; day = d; offset = f.offset }
-in_force f (group.Offset r o) =
-    record { sourced = f.sourced; country = f.country; source = f.source; dated = f.dated; month = f.month; day = f.day; offset = o }
+in_force f (group.Source c s) = record { source = Some (c, s); date = f.date; offset = f.offset }
+in_force f (group.Date m d) = record { source = f.source; date = Some (m, d); offset = f.offset }
+in_force f (group.Offset r o) = record { source = f.source; date = f.date; offset = o }
 in_force f (group.Start r h c) = f
 in_force f (group.Minutes c m) = f
 in_force f (group.Finish r h d) = f
@@ -72,7 +68,7 @@ in_force f group.Terminator = f
 -- 'a Starting Hours group .. where no source or no date has come yet, whatever follows it'
 unfoldable pub lacks : InForce → List Group → Bool
 lacks f [] = false
-lacks f (g ∷ gs) = (is_start g && not (f.sourced && f.dated)) || lacks (in_force f g) gs
+lacks f (g ∷ gs) = (is_start g && not (is_some f.source && is_some f.date)) || lacks (in_force f g) gs
 
 -- ── what a pair makes ──────────────────────────────────────────────────────────────────────────────────────────────
 -- the column and minute of a Minutes group that comes next
@@ -128,7 +124,7 @@ finish_in x [] = x
 finish_in x (g ∷ gs) = finish_in (finish_or x g gs) gs
 
 -- 'and a series code (0 is one)'
-abbrev pub series_or : Series → Group → Series
+abbrev pub series_or : Option ℕ → Group → Option ℕ
 series_or x group.Other = x
 series_or x (group.Source c s) = x
 series_or x (group.Date m d) = x
@@ -136,26 +132,26 @@ series_or x (group.Offset r o) = x
 series_or x (group.Start r h c) = x
 series_or x (group.Minutes c m) = x
 series_or x (group.Finish r h d) = x
-series_or x (group.Series k) = series.Code k
+series_or x (group.Series k) = Some k
 series_or x group.Terminator = x
 
-unfoldable pub series_in : Series → List Group → Series
+unfoldable pub series_in : Option ℕ → List Group → Option ℕ
 series_in x [] = x
 series_in x (g ∷ gs) = series_in (series_or x g) gs
 
 -- ── the programmes ─────────────────────────────────────────────────────────────────────────────────────────────────
--- the programme of a pair, with 'the source, date and offset then in force', a finish and a series
-abbrev pub programme_by : InForce → ℕ → ℕ → Bool → ℕ → ℕ → Finish → Series → Programme
+-- the programme of a pair, with 'the source, date and offset then in force', a finish and a series; what has not come is 0
+abbrev pub programme_by : InForce → ℕ → ℕ → Bool → ℕ → ℕ → Finish → Option ℕ → Programme
 programme_by f row hour controlled column minute finish series = record {
   row = row;
   column = column;
-  day = f.day;
-  month = f.month;
+  day = (unwrap_or f.date (0, 0)).1;
+  month = (unwrap_or f.date (0, 0)).0;
   hour = hour;
   minute = minute;
   finish = finish;
-  country = f.country;
-  source = f.source;
+  country = (unwrap_or f.source (0, 0)).0;
+  source = (unwrap_or f.source (0, 0)).1;
   offset = f.offset;
   controlled = controlled;
   series = series;
@@ -165,7 +161,7 @@ programme_by f row hour controlled column minute finish series = record {
 abbrev pub made_by : InForce → ℕ → ℕ → Bool → List Group → Next → List Programme
 made_by f row hour controlled gs none = []
 made_by f row hour controlled gs (minutes column minute) =
-    programme_by f row hour controlled column minute (finish_in finish.Absent (own gs)) (series_in series.Absent (own gs)) ∷ []
+    programme_by f row hour controlled column minute (finish_in finish.Absent (own gs)) (series_in None (own gs)) ∷ []
 
 abbrev pub begun : InForce → Group → List Group → List Programme
 begun f group.Other gs = []

@@ -1,6 +1,6 @@
 -- A page's packets X/26 (document 02, #103; EN 300 231 clause 7.3.2.3 a)): what the reader gives.
-use Rattle.std.specs.Prelude.{ℕ, zero, suc, ◌+◌, ◌*◌, ◌/◌, Bool, true, false, not, ◌&&◌, ◌||◌, List, [], ◌∷◌, ◌++◌, map, ltb, eqb, length, get_or}
-use Rattle.answer.specs.Answer.{Answer, Row, first_of}
+use Rattle.std.specs.Prelude.{ℕ, zero, suc, ◌+◌, ◌*◌, ◌/◌, Bool, true, false, not, ◌&&◌, ◌||◌, List, [], ◌∷◌, ◌++◌, map, ltb, eqb, length, get_or, None, Result, Ok, Err}
+use Rattle.answer.specs.Answer.{Answer, refused, given, Row, first_of}
 use Rattle.answer.specs.Lists.{some, filled}
 use Rattle.hamming.specs.Byte.{nibble_of}
 use Rattle.hamming.specs.declared.Nibble.{Nibble}
@@ -12,11 +12,10 @@ use Rattle.group.specs.declared.Group.{Group}
 use Rattle.group.specs.Group.{group_of}
 use Rattle.group.specs.declared.Offset.TheVariants.{East}
 use Rattle.programmes.specs.declared.Finish.TheVariants as finish
-use Rattle.programmes.specs.declared.Series.TheVariants as series
 use Rattle.programmes.specs.declared.Programme.{Programme}
 use Rattle.programmes.specs.declared.Page.{Page}
-use Rattle.programmes.specs.declared.Verdict.{Verdict}
-use Rattle.programmes.specs.declared.Verdict.TheVariants.{Length, Damaged, OtherPacket, Lacking, Read}
+use Rattle.programmes.specs.declared.Refusal.{Refusal}
+use Rattle.programmes.specs.declared.Refusal.TheVariants.{Length, Damaged, OtherPacket, Lacking}
 use Rattle.programmes.specs.Meaning.{active, nothing, lacks, programmes_in}
 
 -- ── the packets ────────────────────────────────────────────────────────────────────────────────────────────────────
@@ -115,7 +114,7 @@ blank = record {
   source = 0;
   offset = East 0;
   controlled = false;
-  series = series.Absent;
+  series = None;
 }
 
 -- Why no page has more than 103: sixteen packets have 208 triplets, as a seventeenth has no designation left; two of them are the
@@ -126,10 +125,14 @@ most = 103
 unfoldable pub page_of : List Programme → Page
 page_of qs = record { count = length qs; programmes = filled most blank qs }
 
--- the paper's numbers, and 0 for what is read
-abbrev pub read_number : Verdict → ℕ
+-- the paper's numbers
+abbrev pub read_number : Refusal → ℕ
 read_number Length = 20
 read_number Damaged = 21
 read_number OtherPacket = 18
 read_number Lacking = 22
-read_number Read = 0
+
+-- a page that is read, or why it is not: of a refused one no programme is told
+abbrev pub reading_answer : Result Page Refusal → Answer Page
+reading_answer (Err r) = refused (read_number r)
+reading_answer (Ok page) = given page

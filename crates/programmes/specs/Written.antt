@@ -1,5 +1,5 @@
 -- A page's packets X/26 as they are written (document 02, #103).
-use Rattle.std.specs.Prelude.{ℕ, zero, suc, ◌+◌, ◌*◌, ◌/◌, ◌%◌, Bool, true, false, cond, not, ◌&&◌, ◌||◌, List, [], ◌∷◌, ◌++◌, ltb, eqb, length, get_or, take}
+use Rattle.std.specs.Prelude.{ℕ, zero, suc, ◌+◌, ◌*◌, ◌/◌, ◌%◌, Bool, true, false, cond, not, ◌&&◌, ◌||◌, List, [], ◌∷◌, ◌++◌, ltb, eqb, length, get_or, take, Option, None, Some, Result, Ok, Err}
 use Rattle.std.proofs.lemmas.List.Edits.{sets}
 use Rattle.answer.specs.Answer.{Answer, refused, given, Row, first_of}
 use Rattle.answer.specs.Lists.{some}
@@ -12,13 +12,11 @@ use Rattle.group.specs.declared.Group.TheVariants as group
 use Rattle.group.specs.Group.{bits_of}
 use Rattle.programmes.specs.declared.Finish.{Finish}
 use Rattle.programmes.specs.declared.Finish.TheVariants as finish
-use Rattle.programmes.specs.declared.Series.{Series}
-use Rattle.programmes.specs.declared.Series.TheVariants as series
 use Rattle.programmes.specs.declared.Programme.{Programme}
 use Rattle.programmes.specs.declared.InForce.{InForce}
 use Rattle.programmes.specs.declared.Page.{Page}
-use Rattle.programmes.specs.declared.Written.{Written}
-use Rattle.programmes.specs.declared.Written.TheVariants.{WrongLength, OutOfRange, Packets}
+use Rattle.programmes.specs.declared.WriteRefusal.{WriteRefusal}
+use Rattle.programmes.specs.declared.WriteRefusal.TheVariants.{WrongLength, OutOfRange}
 use Rattle.programmes.specs.Meaning.{nothing}
 
 -- ── the groups of a programme ──────────────────────────────────────────────────────────────────────────────────────
@@ -28,11 +26,16 @@ same_offset (East a) (West b) = false
 same_offset (West a) (East b) = false
 same_offset (West a) (West b) = eqb a b
 
+-- two numbers have come, and are these
+abbrev pub is_pair : Option (ℕ × ℕ) → ℕ → ℕ → Bool
+is_pair None a b = false
+is_pair (Some p) a b = eqb p.0 a && eqb p.1 b
+
 abbrev pub same_source : InForce → Programme → Bool
-same_source f q = f.sourced && eqb f.country q.country && eqb f.source q.source
+same_source f q = is_pair f.source q.country q.source
 
 abbrev pub same_date : InForce → Programme → Bool
-same_date f q = f.dated && eqb f.month q.month && eqb f.day q.day
+same_date f q = is_pair f.date q.month q.day
 
 -- 'it writes source, date and offset where they change'
 abbrev pub source_sent : InForce → Programme → List Group
@@ -53,9 +56,9 @@ finish_sent row column finish.Absent = []
 finish_sent row column (finish.Time h m) = group.Finish row h false ∷ group.Minutes column m ∷ []
 finish_sent row column (finish.Duration h m) = group.Finish row h true ∷ group.Minutes column m ∷ []
 
-abbrev pub series_sent : Series → List Group
-series_sent series.Absent = []
-series_sent (series.Code k) = group.Series k ∷ []
+abbrev pub series_sent : Option ℕ → List Group
+series_sent None = []
+series_sent (Some k) = group.Series k ∷ []
 
 unfoldable pub groups_of : InForce → Programme → List Group
 groups_of f q =
@@ -63,15 +66,7 @@ groups_of f q =
 
 -- what is in force after a programme
 abbrev pub force_of : Programme → InForce
-force_of q = record {
-  sourced = true;
-  country = q.country;
-  source = q.source;
-  dated = true;
-  month = q.month;
-  day = q.day;
-  offset = q.offset;
-}
+force_of q = record { source = Some (q.country, q.source); date = Some (q.month, q.day); offset = q.offset }
 
 unfoldable pub groups_from : InForce → List Programme → List Group
 groups_from f [] = []
@@ -117,9 +112,9 @@ outside_finish finish.Absent = false
 outside_finish (finish.Time h m) = ltb 23 h || ltb 59 m
 outside_finish (finish.Duration h m) = ltb 39 h || ltb 59 m
 
-abbrev pub outside_series : Series → Bool
-outside_series series.Absent = false
-outside_series (series.Code k) = ltb 127 k
+abbrev pub outside_series : Option ℕ → Bool
+outside_series None = false
+outside_series (Some k) = ltb 127 k
 
 -- '19: .. country above 15, source above 127, month not 1 to 12, day not 1 to 31, hour above 23, minute above 59, row not 1 to 24,
 -- column above 39, offset beyond 63 either way, series above 127, a finishing time beyond 23:59 or a duration beyond 39:59'
@@ -161,12 +156,14 @@ abbrev pub programmes_of : Page → List Programme
 programmes_of page = take page.count page.programmes
 
 -- the paper's numbers, and 0 for what is written
-abbrev pub written_number : Written → ℕ
-written_number WrongLength = 20
-written_number OutOfRange = 19
-written_number (Packets n) = 0
+abbrev pub refusal_number : WriteRefusal → ℕ
+refusal_number WrongLength = 20
+refusal_number OutOfRange = 19
 
-abbrev pub written_answer : Written → Answer ℕ
-written_answer WrongLength = refused 20
-written_answer OutOfRange = refused 19
-written_answer (Packets n) = given n
+abbrev pub written_number : Result ℕ WriteRefusal → ℕ
+written_number (Err r) = refusal_number r
+written_number (Ok n) = 0
+
+abbrev pub written_answer : Result ℕ WriteRefusal → Answer ℕ
+written_answer (Err r) = refused (refusal_number r)
+written_answer (Ok n) = given n

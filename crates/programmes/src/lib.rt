@@ -5,7 +5,7 @@ ghost use Rattle.std.specs.Prelude.{true, ◌≡◌};
 ghost use Rattle.programmes.specs.Laws.{Laws};
 ghost use Rattle.programmes.specs.Meaning.{nothing};
 ghost use Rattle.programmes.specs.Page.{blank, read_number};
-ghost use Rattle.programmes.specs.Written.{written_number};
+ghost use Rattle.programmes.specs.Written.{refusal_number, written_number};
 
 use group::Offset;
 
@@ -16,12 +16,6 @@ pub enum Finish {
     Absent,
     Time(u8, u8),
     Duration(u8, u8),
-}
-
-#[derive(Clone, Copy)]
-pub enum Series {
-    Absent,
-    Code(u8),
 }
 
 #[derive(Clone, Copy)]
@@ -37,7 +31,7 @@ pub struct Programme {
     pub source: u8,
     pub offset: Offset,
     pub controlled: bool,
-    pub series: Series,
+    pub series: Option<u8>,
 }
 
 impl Programme {
@@ -57,7 +51,7 @@ impl Programme {
             source: 0,
             offset: Offset::East(0),
             controlled: false,
-            series: Series::Absent,
+            series: None,
         }
     }
 }
@@ -72,12 +66,8 @@ pub struct Page {
 // 'These three data groups activate their functions in the sequence and remain until redefined.'
 #[derive(Clone, Copy)]
 pub struct InForce {
-    pub sourced: bool,
-    pub country: u8,
-    pub source: u8,
-    pub dated: bool,
-    pub month: u8,
-    pub day: u8,
+    pub source: Option<(u8, u8)>, // country and programme source
+    pub date: Option<(u8, u8)>, // month and day
     pub offset: Offset,
 }
 
@@ -87,67 +77,62 @@ impl InForce {
         ensures { result ≡ nothing }
     {
         InForce {
-            sourced: false,
-            country: 0,
-            source: 0,
-            dated: false,
-            month: 0,
-            day: 0,
+            source: None,
+            date: None,
             offset: Offset::East(0),
         }
     }
 }
 
-// Why a page is not read, or that it is: refusals 20, 21, 18 and 22.
-#[derive(Clone, Copy)]
-pub enum Verdict {
+// Why a page is not read: refusals 20, 21, 18 and 22.
+#[derive(Clone, Copy, PartialEq, Eq)]
+pub enum Refusal {
     Length,
     Damaged,
     OtherPacket,
     Lacking,
-    Read,
 }
 
-impl Verdict {
-    // The paper's number, or 0.
+impl Refusal {
+    // The paper's number.
     pub fn number(self) -> u8
         ensures { result ≡ read_number self }
     {
         match self {
-            Verdict::Length => 20,
-            Verdict::Damaged => 21,
-            Verdict::OtherPacket => 18,
-            Verdict::Lacking => 22,
-            Verdict::Read => 0,
+            Refusal::Length => 20,
+            Refusal::Damaged => 21,
+            Refusal::OtherPacket => 18,
+            Refusal::Lacking => 22,
         }
     }
 }
 
-// A page that is read; of a refused one no programme is told.
-#[derive(Clone, Copy)]
-pub struct Reading {
-    pub verdict: Verdict,
-    pub page: Page,
-}
-
-// What became of programmes to be written: refusals 20 and 19, or how many packets they took.
-#[derive(Clone, Copy)]
-pub enum Written {
+// Why programmes are not written: refusals 20 and 19.
+#[derive(Clone, Copy, PartialEq, Eq)]
+pub enum WriteRefusal {
     WrongLength,
     OutOfRange,
-    Packets(u8),
 }
 
-impl Written {
-    // The paper's number, or 0.
+impl WriteRefusal {
+    // The paper's number.
     pub fn number(self) -> u8
-        ensures { result ≡ written_number self }
+        ensures { result ≡ refusal_number self }
     {
         match self {
-            Written::WrongLength => 20,
-            Written::OutOfRange => 19,
-            Written::Packets(_) => 0,
+            WriteRefusal::WrongLength => 20,
+            WriteRefusal::OutOfRange => 19,
         }
+    }
+}
+
+// The paper's number of what became of programmes to be written, or 0 where they took some packets.
+pub fn written_number(written: Result<u8, WriteRefusal>) -> u8
+    ensures { result ≡ written_number written }
+{
+    match written {
+        Err(refusal) => refusal.number(),
+        Ok(_) => 0,
     }
 }
 

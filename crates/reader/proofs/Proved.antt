@@ -1,6 +1,6 @@
 -- The law of the reader: a reading back from its number or from what is received.
 use Prim.Native.Nat.{ℕ}
-use mathlib.Core.Path.{◌≡◌, refl, ap}
+use Rattle.std.proofs.Common.{◌≡◌, refl, ap, Result, Ok, Err}
 use mathlib.Core.Bool.{cond}
 use lib.Dec.{eqb}
 use Rattle.answer.specs.Answer.{Answer, refused, given}
@@ -8,8 +8,6 @@ use Rattle.answer.proofs.Answers.{equation, numbered, paired}
 use Rattle.label.specs.declared.Received.{Received}
 use Rattle.label.specs.declared.Refusal.{Refusal}
 use Rattle.label.specs.declared.Refusal.TheVariants.{Length, AddressDamaged, OtherPacket, DesignationDamaged, OtherDesignation, LabelDamaged}
-use Rattle.label.specs.declared.Reading.{Reading}
-use Rattle.label.specs.declared.Reading.TheVariants.{Refused, Read}
 use Rattle.label.specs.Packet.{refusal_number, reading_answer, reception_of}
 use Rattle.reader.specs.Laws.{Laws}
 
@@ -28,13 +26,13 @@ named_back DesignationDamaged = refl
 named_back OtherDesignation = refl
 named_back LabelDamaged = refl
 
-abbrev reading : Answer Received → Reading
-reading (refused n) = Refused (named n)
-reading (given r) = Read r
+abbrev reading : Answer Received → Result Received Refusal
+reading (refused n) = Err (named n)
+reading (given r) = Ok r
 
-reading_back : (r : Reading) → reading (reading_answer r) ≡ r
-reading_back (Refused r) = ap Refused (named_back r)
-reading_back (Read r) = refl
+reading_back : (r : Result Received Refusal) → reading (reading_answer r) ≡ r
+reading_back (Err r) = ap Err (named_back r)
+reading_back (Ok r) = refl
 
 pub laws : Laws
 laws = record {

@@ -1,34 +1,32 @@
 // A packet's bytes read into a label, and its mended bytes counted.
 #![tactic(auto)]
 
-ghost use Rattle.std.specs.Prelude.{true, cond, ◌≡◌, ℕ, ◌<◌, eqb, length};
+ghost use Rattle.std.specs.Prelude.{true, cond, ◌≡◌, ℕ, ◌<◌, eqb, length, false, MatchOption};
 ghost use Rattle.answer.specs.Lists.{some, count};
 ghost use Rattle.hamming.specs.Byte.{away, nibble_of};
 ghost use Rattle.label.specs.Layout.{bit_at, field_by, label_by};
 ghost use Rattle.label.specs.Number.{number_by};
-ghost use Rattle.label.specs.Packet.{value_of, value_at, damaged_at, mended_at, label_bytes, reading_answer, reception_of};
+ghost use Rattle.label.specs.Packet.{value_of, value_at, damaged, damaged_at, mended_at, label_bytes, reading_answer, reception_of};
 ghost use Rattle.reader.specs.Laws.{Laws};
 
 use hamming::Nibble;
 use label::nibble::turned;
-use label::{Label, Reading, Received, Refusal};
+use label::{Label, Received, Refusal};
 
-// Bytes 9 to 21 as one number of 52 bits, the first sent highest, whether one of them is damaged, and how many are mended.
+// Bytes 9 to 21 as one number of 52 bits, the first sent highest, and how many of them are mended.
 #[derive(Clone, Copy)]
 struct Sent {
-    damaged: bool,
     mended: u8,
     number: u64,
 }
 
-// 16 for a damaged byte.
-fn value(n: Nibble) -> u8
-    ensures { result ≡ value_of n }
+// A damaged byte has none.
+fn value(n: Nibble) -> Option<u8>
+    ensures { MatchOption result (damaged n ≡ true) (λ v. (damaged n ≡ false) × (v ≡ value_of n)) }
 {
     match n {
-        Nibble::Damaged => 16,
-        Nibble::Clean(v) => v,
-        Nibble::Mended(v) => v,
+        Nibble::Damaged => None,
+        Nibble::Clean(v) | Nibble::Mended(v) => Some(v),
     }
 }
 
@@ -36,36 +34,26 @@ fn value(n: Nibble) -> u8
 fn mends(n: Nibble) -> u8
     ensures { (b : ℕ) → n ≡ nibble_of b → result ≡ cond (eqb (away b) 1) 1 0 }
 {
-    match n {
-        Nibble::Damaged => 0,
-        Nibble::Clean(_) => 0,
-        Nibble::Mended(_) => 1,
-    }
+    u8::from(matches!(n, Nibble::Mended(_)))
 }
 
-fn nibbles(bytes: &[u8]) -> Sent
+// None where one of them is damaged.
+fn nibbles(bytes: &[u8]) -> Option<Sent>
     requires { length bytes.now ≡ 42 }
-    ensures { (result.damaged ≡ some (damaged_at bytes.now) label_bytes)
-        × (result.mended ≡ count (mended_at bytes.now) label_bytes)
-        × (result.number ≡ number_by (bit_at (value_at bytes.now)) label_bytes) }
+    ensures { MatchOption result (some (damaged_at bytes.now) label_bytes ≡ true)
+        (λ s. (some (damaged_at bytes.now) label_bytes ≡ false)
+        × (s.mended ≡ count (mended_at bytes.now) label_bytes)
+        × (s.number ≡ number_by (bit_at (value_at bytes.now)) label_bytes)) }
 {
     let mut number: u64 = 0;
-    let mut damaged = false;
     let mut mended: u8 = 0;
-    let mut i: usize = 9;
-    while i < 22 {
+    for i in 9..22 {
         let n = hamming::decode(bytes[i]);
-        let v = value(n);
-        damaged = damaged | (15 < v);
-        mended = mended + mends(n);
-        number = number * 16 + turned(v) as u64;
-        i += 1;
+        let v = value(n)?;
+        mended += mends(n);
+        number = number * 16 + u64::from(turned(v));
     }
-    Sent {
-        damaged: damaged,
-        mended: mended,
-        number: number,
-    }
+    Some(Sent { mended, number })
 }
 
 // In the order in which they are sent: LCI 2 bits, LUF, PRF, PCS 2, MI, spare, CNI 1-4, CNI 9-10, PIL 20, CNI 5-8, CNI 11-16, PTY 8.
@@ -99,41 +87,32 @@ fn label_of(designation: u8, number: u64) -> Label
 }
 
 // The label of a packet and the count of its mended bytes, or the first refusal that applies.
-pub fn read(bytes: &[u8]) -> Reading
+#[tactic(auto, using(label::proofs::Mended::mended_sum, label::proofs::Mended::few_mended), unfolding(label::specs::Packet::reception_of))]
+pub fn read(bytes: &[u8]) -> Result<Received, Refusal>
     ensures result_value { reading_answer result ≡ reception_of bytes.now }
     ensures bytes_value { bytes.exit.now ≡ bytes.entry.now }
 {
     if bytes.len() != 42 {
-        return Reading::Refused(Refusal::Length);
+        return Err(Refusal::Length);
     }
     let n0 = hamming::decode(bytes[0]);
-    let v0 = value(n0);
+    let v0 = value(n0).ok_or(Refusal::AddressDamaged)?;
     let n1 = hamming::decode(bytes[1]);
-    let v1 = value(n1);
-    if (15 < v0) | (15 < v1) {
-        return Reading::Refused(Refusal::AddressDamaged);
-    }
+    let v1 = value(n1).ok_or(Refusal::AddressDamaged)?;
     if !((v0 == 0) & (v1 == 15)) {
-        return Reading::Refused(Refusal::OtherPacket);
+        return Err(Refusal::OtherPacket);
     }
     let n2 = hamming::decode(bytes[2]);
-    let v2 = value(n2);
-    if 15 < v2 {
-        return Reading::Refused(Refusal::DesignationDamaged);
-    }
+    let v2 = value(n2).ok_or(Refusal::DesignationDamaged)?;
     if !((v2 == 2) | (v2 == 3)) {
-        return Reading::Refused(Refusal::OtherDesignation);
+        return Err(Refusal::OtherDesignation);
     }
-    let sent = nibbles(bytes);
-    if sent.damaged {
-        return Reading::Refused(Refusal::LabelDamaged);
-    }
-    let l = label_of(v2, sent.number);
+    let sent = nibbles(bytes).ok_or(Refusal::LabelDamaged)?;
     let first = mends(n0) + mends(n1) + mends(n2);
-    let count = first + sent.mended;
-    Reading::Read(Received {
-        label: l,
-        mended: count,
+    let mended = first + sent.mended;
+    Ok(Received {
+        label: label_of(v2, sent.number),
+        mended,
     })
 }
 

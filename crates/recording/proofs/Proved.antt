@@ -3,13 +3,12 @@ use Prim.Native.Nat.{ℕ, ◌<◌}
 use mathlib.Core.Path.{◌≡◌, refl, sym, ap, ◌∙◌}
 use mathlib.Core.List.{List, [], ◌∷◌, ◌++◌, map, append_assoc}
 use native.Mathlib.Omega.{arith}
+use Rattle.std.proofs.Common.{Option, None, Some}
 use Rattle.answer.specs.Answer.{given, first_of, number, Row}
 use Rattle.answer.proofs.Cases.{by_test}
 use Rattle.preview.specs.declared.Programme.{Programme}
 use Rattle.preview.specs.Page.{Answers}
 use Rattle.booked.specs.declared.Booked.{Booked}
-use Rattle.booked.specs.declared.Timer.{Timer}
-use Rattle.booked.specs.declared.Timer.TheVariants.{NotRecorded, Timed}
 use Rattle.booked.specs.Timer.{timer_of}
 use Rattle.booked.specs.Laws.{Member, here, later}
 use Rattle.booked.proofs.Proved as booked
@@ -44,7 +43,7 @@ taken_back tuner b f =
 
 -- those of a page do
 module _ (page : List ℕ) (qs : List Programme) (w : Answers page (given qs)) where
-  one_fits : (q : Programme) (b : Booked) → Member q qs → timer_of q ≡ Timed b → Fits b
+  one_fits : (q : Programme) (b : Booked) → Member q qs → timer_of q ≡ Some b → Fits b
   one_fits q b m e = record {
     cni = omega (arith, (booked.laws).cni_below page qs q b w m e);
     pil = omega (arith, (booked.laws).pil_below page qs q b w m e);
@@ -54,9 +53,9 @@ module _ (page : List ℕ) (qs : List Programme) (w : Answers page (given qs)) w
   onto_fits : (q : Programme) (bs : List Booked) → Member q qs → AllFit bs → AllFit (onto_timers (timer_of q) bs)
   onto_fits q bs m f = go (timer_of q) refl
     where
-      go : (t : Timer) → timer_of q ≡ t → AllFit (onto_timers t bs)
-      go NotRecorded e = f
-      go (Timed b) e = (one_fits q b m e, f)
+      go : (t : Option Booked) → timer_of q ≡ t → AllFit (onto_timers t bs)
+      go None e = f
+      go (Some b) e = (one_fits q b m e, f)
 
   timers_fit : (ps : List Programme) → ((q : Programme) → Member q ps → Member q qs) → AllFit (timers_of ps)
   unfolding timers_of

@@ -1,11 +1,10 @@
 -- From a preview page to the desk (document 02, #108): a sheet that begins with the page's timers, as it is played. Proved in
 -- proofs/Proved.antt.
-use Rattle.std.specs.Prelude.{ℕ, ◌≡◌, List, [], ◌∷◌, ◌++◌}
+use Rattle.std.specs.Prelude.{ℕ, ◌≡◌, List, [], ◌∷◌, ◌++◌, Some}
 use Rattle.answer.specs.Answer.{given, number}
 use Rattle.preview.specs.declared.Programme.{Programme}
 use Rattle.preview.specs.Page.{Answers}
 use Rattle.booked.specs.declared.Booked.{Booked}
-use Rattle.booked.specs.declared.Timer.TheVariants.{Timed}
 use Rattle.booked.specs.Timer.{timer_of}
 use Rattle.booked.specs.Laws.{Member}
 use Rattle.section.specs.Section.{timers_of, section_of}
@@ -42,4 +41,4 @@ pub record Recording : Type 0 where
       sheet_of (section_of tuner bs ++ rest) ≡ adds_told tuner bs fresh ++ (lines_of c.items d ++ last_line c.whole (desk_left c.items d))
   -- 'its PIL is real in its year, so `add` never answers 11', whatever the desk holds
   pub never_11 : (page : List ℕ) (qs : List Programme) (q : Programme) (b : Booked) (tuner : ℕ) (d : Desk) → Answers page (given qs) → Member q qs →
-      timer_of q ≡ Timed b → number (add_of (booking_of tuner b) d) ≡ 11 → ⊥
+      timer_of q ≡ Some b → number (add_of (booking_of tuner b) d) ≡ 11 → ⊥

@@ -1,10 +1,29 @@
 // What each call of the desk replies, and the paper's number for it.
 #![tactic(auto)]
 
-ghost use Rattle.std.specs.Prelude.{true, ◌≡◌};
+ghost use Rattle.std.specs.Prelude.{true, ◌≡◌, ℕ};
 ghost use Rattle.answer.specs.Answer.{number};
-ghost use Rattle.reply.specs.Numbers.{packet_refusal, packet_number, wait_answer, add_answer, cancel_number, state_says, ask_answer, second_number};
+ghost use Rattle.reply.specs.Numbers.{told, packet_refusal, wait_refusal, add_refusal, no_timer_number, past_end_number, state_says};
 ghost use Rattle.reply.specs.Laws.{Laws};
+
+// Why a call is refused.
+pub trait Refusal: Copy {
+    ghost numbered: { Self → ℕ };
+
+    // The paper's number.
+    fn number(self) -> u8
+        ensures { result ≡ numbered self };
+}
+
+// '0 or the refusal': of any call, whatever an accepted one gives.
+pub fn number<T: Copy, R: Refusal>(answer: Result<T, R>) -> u8
+    ensures { result ≡ number (told R.numbered answer) }
+{
+    match answer {
+        Ok(_) => 0,
+        Err(r) => r.number(),
+    }
+}
 
 // Why a packet is not heard: refusals 8, 9, 10, those of the reader, 7, 11, 12.
 #[derive(Clone, Copy)]
@@ -18,11 +37,10 @@ pub enum PacketRefusal {
     Ended,
 }
 
-impl PacketRefusal {
-    // The paper's number.
-    pub fn number(self) -> u8
-        ensures { result ≡ packet_refusal self }
-    {
+impl Refusal for PacketRefusal {
+    ghost numbered = { packet_refusal };
+
+    fn number(self) -> u8 {
         match self {
             PacketRefusal::Tuner => 8,
             PacketRefusal::Before => 9,
@@ -35,88 +53,81 @@ impl PacketRefusal {
     }
 }
 
+// Why nothing is waited for: refusals 9 and 10.
 #[derive(Clone, Copy)]
-pub enum PacketAnswer {
-    Refused(PacketRefusal),
-    Done,
-}
-
-impl PacketAnswer {
-    // '0 or the refusal.'
-    pub fn number(self) -> u8
-        ensures { result ≡ packet_number self }
-    {
-        match self {
-            PacketAnswer::Refused(r) => r.number(),
-            PacketAnswer::Done => 0,
-        }
-    }
-}
-
-// Refusals 9 and 10, or the seconds walked.
-#[derive(Clone, Copy)]
-pub enum WaitAnswer {
+pub enum WaitRefusal {
     Before,
     Past,
-    Walked(u32),
 }
 
-impl WaitAnswer {
-    // The refusal's number, or 0.
-    pub fn number(self) -> u8
-        ensures { result ≡ number (wait_answer self) }
-    {
+impl Refusal for WaitRefusal {
+    ghost numbered = { wait_refusal };
+
+    fn number(self) -> u8 {
         match self {
-            WaitAnswer::Before => 9,
-            WaitAnswer::Past => 10,
-            WaitAnswer::Walked(_) => 0,
+            WaitRefusal::Before => 9,
+            WaitRefusal::Past => 10,
         }
     }
 }
 
-// Refusals 11, 17, 12, 13 and 14, or the slot.
+// A packet's time is refused as a wait's is.
+impl From<WaitRefusal> for PacketRefusal {
+    ghost from_gives = { λ w p. packet_refusal p ≡ wait_refusal w };
+
+    fn from(w: WaitRefusal) -> PacketRefusal {
+        match w {
+            WaitRefusal::Before => PacketRefusal::Before,
+            WaitRefusal::Past => PacketRefusal::Past,
+        }
+    }
+}
+
+// Why nothing is added: refusals 11, 17, 12, 13 and 14.
 #[derive(Clone, Copy)]
-pub enum AddAnswer {
+pub enum AddRefusal {
     NotReal,
     OutOfRange,
     Ended,
     Held,
     Full,
-    Slot(usize),
 }
 
-impl AddAnswer {
-    // The refusal's number, or 0.
-    pub fn number(self) -> u8
-        ensures { result ≡ number (add_answer self) }
-    {
+impl Refusal for AddRefusal {
+    ghost numbered = { add_refusal };
+
+    fn number(self) -> u8 {
         match self {
-            AddAnswer::NotReal => 11,
-            AddAnswer::OutOfRange => 17,
-            AddAnswer::Ended => 12,
-            AddAnswer::Held => 13,
-            AddAnswer::Full => 14,
-            AddAnswer::Slot(_) => 0,
+            AddRefusal::NotReal => 11,
+            AddRefusal::OutOfRange => 17,
+            AddRefusal::Ended => 12,
+            AddRefusal::Held => 13,
+            AddRefusal::Full => 14,
         }
     }
 }
 
-// Refusal 15, or nothing more to say.
+// Why nothing is cancelled, or asked of a slot: 'slot above 15 or free', refusal 15.
 #[derive(Clone, Copy)]
-pub enum CancelAnswer {
-    NoTimer,
-    Done,
+pub struct NoTimer;
+
+impl Refusal for NoTimer {
+    ghost numbered = { no_timer_number };
+
+    fn number(self) -> u8 {
+        15
+    }
 }
 
-impl CancelAnswer {
-    // The refusal's number, or 0.
-    pub fn number(self) -> u8
-        ensures { result ≡ cancel_number self }
-    {
-        match self {
-            CancelAnswer::NoTimer => 15,
-            CancelAnswer::Done => 0,
-        }
+// Why no second passes: the clock's end, refusal 10.
+#[derive(Clone, Copy)]
+pub struct PastEnd;
+
+impl Refusal for PastEnd {
+    ghost numbered = { past_end_number };
+
+    fn number(self) -> u8 {
+        10
     }
 }
 
@@ -143,44 +154,6 @@ impl State {
             State::RunningOn { place: _ } => 3,
             State::Ended => 4,
             State::ByTheClock => 5,
-        }
-    }
-}
-
-// Refusal 15, or the timer's state.
-#[derive(Clone, Copy)]
-pub enum AskAnswer {
-    NoTimer,
-    Says(State),
-}
-
-impl AskAnswer {
-    // The refusal's number, or 0.
-    pub fn number(self) -> u8
-        ensures { result ≡ number (ask_answer self) }
-    {
-        match self {
-            AskAnswer::NoTimer => 15,
-            AskAnswer::Says(_) => 0,
-        }
-    }
-}
-
-// Refusal 10, or nothing more to say.
-#[derive(Clone, Copy)]
-pub enum SecondAnswer {
-    Past,
-    Done,
-}
-
-impl SecondAnswer {
-    // The refusal's number, or 0.
-    pub fn number(self) -> u8
-        ensures { result ≡ second_number self }
-    {
-        match self {
-            SecondAnswer::Past => 10,
-            SecondAnswer::Done => 0,
         }
     }
 }

@@ -1,11 +1,12 @@
 -- What is printed of the aerials (document 02, #102): a line for each tuner that a packet came from, and the last line.
 use Rattle.std.specs.Prelude.{ℕ, Bool, cond, ◌&&◌, List, [], ◌∷◌, ◌++◌, eqb}
-use Rattle.answer.specs.Text.{space, line_feed, digit, decimal_in}
+use Rattle.answer.specs.Text.{space, line_feed, digit}
+use Rattle.text.specs.Columns.{column_in}
 use Rattle.report.specs.declared.Tuner.{Tuner}
 
 -- 'in decimal'; ten digits hold each of the numbers (law `small` of `tally`)
 abbrev pub column : ℕ → List ℕ
-column n = space ∷ decimal_in 10 n
+column n = column_in 10 n
 
 -- '`A tuner clean mended bytes refused`'
 unfoldable pub a_line : ℕ → Tuner → List ℕ

@@ -3,13 +3,14 @@
 
 mod lines; // the lines
 
-ghost use Rattle.std.specs.Prelude.{◌≤◌, true, ◌≡◌, length, get_or};
-ghost use Rattle.answer.specs.Text.{Stored};
+ghost use Rattle.std.specs.Prelude.{true, ◌≡◌, get_or};
+ghost use Rattle.text.specs.Printed.{Printed};
 ghost use Rattle.report.specs.Laws.{Laws};
 ghost use Rattle.report.specs.Report.{silence, report};
 ghost use Rattle.report.specs.Room.{longest, length_in, stored_in};
 
 use crate::lines::{last_line, tuner_line};
+use text::Printer;
 
 // No report is longer.
 const LONGEST: usize = 194;
@@ -24,18 +25,18 @@ pub struct Tuner {
 }
 
 // 'For each of the tuners 0 to 3 .. in order .. then `Z`.'
-fn put_report(out: &mut [u8], tuners: [Tuner; 4], whole: bool) -> usize
-    requires { longest ≤ length out.old }
-    ensures { Stored out.old 0 (report (λ k. get_or tuners k silence) whole) result out.new }
+fn put_report(out: &mut Printer<'_>, tuners: [Tuner; 4], whole: bool)
+    ensures { Printed out.old (report (λ k. get_or tuners k silence) whole) out.new }
 {
-    let first = tuner_line(out, 0, 0, tuners[0]);
-    let second = tuner_line(out, first, 1, tuners[1]);
-    let third = tuner_line(out, second, 2, tuners[2]);
-    let last = tuner_line(out, third, 3, tuners[3]);
-    last_line(out, last, whole)
+    tuner_line(out, 0, tuners[0]);
+    tuner_line(out, 1, tuners[1]);
+    tuner_line(out, 2, tuners[2]);
+    tuner_line(out, 3, tuners[3]);
+    last_line(out, whole);
 }
 
-// The report, where it fits.
+// The report, where it fits. 0 where it does not, and no `Option`: so many bytes are written out, and no caller has a case for it.
+#[tactic(auto, unfolding(crate::specs::Room::length_in, crate::specs::Room::stored_in))]
 pub fn report(tuners: [Tuner; 4], whole: bool, out: &mut [u8]) -> usize
     ensures { (result ≡ length_in out.old (report (λ k. get_or tuners k silence) whole))
         × (out.new ≡ stored_in out.old (report (λ k. get_or tuners k silence) whole)) }
@@ -43,7 +44,9 @@ pub fn report(tuners: [Tuner; 4], whole: bool, out: &mut [u8]) -> usize
     if out.len() < LONGEST {
         return 0;
     }
-    put_report(out, tuners, whole)
+    let mut printer = Printer { buffer: out, at: 0 };
+    put_report(&mut printer, tuners, whole);
+    printer.at
 }
 
 // The laws of a report, as a promise of the crate.

@@ -1,7 +1,7 @@
 // A row of a preview page, taken one code at a time: the formats and the title that it contains.
 #![tactic(auto)]
 
-ghost use Rattle.std.specs.Prelude.{true, ◌≡◌, set};
+ghost use Rattle.std.specs.Prelude.{true, ◌≡◌};
 ghost use Rattle.rows.specs.Laws.{Laws};
 ghost use Rattle.rows.specs.Taken.{found_here, titled_by, is_text_value, row_next, row_start, count_after};
 
@@ -33,18 +33,6 @@ pub struct Row {
     pub column: u8,
 }
 
-// Past the eleventh nothing is kept.
-fn added(codes: [u8; 11], at: usize, c: u8) -> [u8; 11]
-    ensures { result ≡ set codes at c }
-{
-    if at < 11 {
-        let mut more = codes;
-        more[at] = c;
-        return more;
-    }
-    codes
-}
-
 fn count_after(n: usize) -> usize
     ensures { result ≡ count_after n }
 {
@@ -57,18 +45,7 @@ fn count_after(n: usize) -> usize
 pub fn is_text(v: Value) -> bool
     ensures { result ≡ is_text_value v }
 {
-    match v {
-        Value::Text => true,
-        Value::Wrong => false,
-        Value::Single(_, _) => false,
-        Value::Double(_, _, _, _) => false,
-        Value::Original(_, _) => false,
-        Value::Date(_, _, _) => false,
-        Value::Network(_) => false,
-        Value::Offset(_) => false,
-        Value::Pty(_) => false,
-        Value::Word(_) => false,
-    }
+    matches!(v, Value::Text)
 }
 
 impl Row {
@@ -86,13 +63,12 @@ impl Row {
     }
 
     // 'Where open figures are a format, they are given out', at an end.
+    #[tactic(auto, unfolding(crate::specs::Taken::kind_here, crate::specs::Taken::found_here, figures::specs::Taken::found_by, figures::specs::Taken::found_from, figures::specs::Permitted::permitted, figures::specs::Permitted::value_of, sums::specs::Counted::counted))]
     pub fn found(self, end: bool) -> Found
         ensures { result ≡ found_here self end }
     {
         if end {
-            let start = self.start;
-            let codes = self.codes;
-            return figures::found_in(start, self.count, codes);
+            return figures::found_in(self.start, self.count, self.codes);
         }
         Found {
             value: Value::Text,
@@ -104,38 +80,32 @@ impl Row {
     pub fn titled(self, pair: bool, text: bool) -> bool
         ensures { result ≡ titled_by self pair text }
     {
-        let t = self.title;
-        text & (pair & title::is_filled(t))
+        text & (pair & title::is_filled(self.title))
     }
 
     // After a code at column p, where a pair begins or not, and no format has been given out or one has.
+    #[tactic(auto, unfolding(crate::specs::Taken::row_next))]
     pub fn next(self, c: u8, p: u8, pair: bool, text: bool) -> Row
         ensures { result ≡ row_next self c p pair text }
     {
-        let k = self.colour;
-        let t = self.title;
-        let title = title::next(k, t, c, pair, text);
-        let column = title::column(k, self.column, c, p, pair);
-        let colour = codes::colour_by(k, c);
-        let codes = self.codes;
+        let row = Row {
+            colour: codes::colour_by(self.colour, c),
+            title: title::next(self.colour, self.title, c, pair, text),
+            column: title::column(self.colour, self.column, c, p, pair),
+            ..self
+        };
         if codes::is_mark(c) {
             return Row {
-                colour,
-                start: formats::start_of(k, c),
+                start: formats::start_of(self.colour, c),
                 count: 0,
-                codes,
-                title,
-                column,
+                ..row
             };
         }
-        let start = self.start;
+        // Past the eleventh nothing is kept.
         Row {
-            colour,
-            start,
             count: count_after(self.count),
-            codes: added(codes, self.count, c),
-            title,
-            column,
+            codes: answer::put(self.codes, self.count, c),
+            ..row
         }
     }
 }

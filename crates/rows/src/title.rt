@@ -9,14 +9,11 @@ use codes::Colour;
 fn is_plain(k: Colour) -> bool
     ensures { result ≡ is_plain k }
 {
-    match k {
-        Colour::Plain => true,
-        Colour::Magenta => false,
-        Colour::Graphics => false,
-    }
+    matches!(k, Colour::Plain)
 }
 
 // 'A pair `++`, or a pair `%%` with plain in force.'
+#[tactic(auto, unfolding(crate::specs::Title::is_opening))]
 fn is_opening(k: Colour, c: u8) -> bool
     ensures { result ≡ is_opening k c }
 {
@@ -33,36 +30,22 @@ fn is_forbidden(c: u8) -> bool
 pub(crate) fn is_filled(t: Reading) -> bool
     ensures { result ≡ is_filled t }
 {
-    match t {
-        Reading::Nothing => false,
-        Reading::Opened => false,
-        Reading::Empty => false,
-        Reading::Filled => true,
-        Reading::Done => false,
-    }
+    matches!(t, Reading::Filled)
 }
 
 fn is_done(t: Reading) -> bool
     ensures { result ≡ is_done t }
 {
-    match t {
-        Reading::Nothing => false,
-        Reading::Opened => false,
-        Reading::Empty => false,
-        Reading::Filled => false,
-        Reading::Done => true,
-    }
+    matches!(t, Reading::Done)
 }
 
 fn advanced(t: Reading) -> Reading
     ensures { result ≡ advanced t }
 {
     match t {
-        Reading::Nothing => Reading::Nothing,
         Reading::Opened => Reading::Empty,
         Reading::Empty => Reading::Filled,
-        Reading::Filled => Reading::Filled,
-        Reading::Done => Reading::Done,
+        _ => t,
     }
 }
 

@@ -1,6 +1,8 @@
-// Moments: the copy's next state, by cases of its present one.
+// Moments: the copy's next state, by cases of its present one. The second and the places are two parameters, as each definition has them: a
+// struct of both would stand in every clause, taken apart.
 ghost use Rattle.std.specs.Prelude.{◌-◌, cond, ◌≡◌, ltb};
 ghost use Rattle.matching.specs.Matching.{sight_of};
+ghost use Rattle.clocked.specs.Clocked.{clocked};
 ghost use Rattle.rule.specs.Rule.{recording_at, clock_or, not_live, prepare_for, from_prepared, moves_or, held, next_copy, next_timer, by_labels, is_live};
 
 use crate::{Copy, Timer};
@@ -18,24 +20,29 @@ const RUN_FOR: u64 = 30;
 const PREPARE_FOR: u64 = 60;
 
 // 'It remembers the MI of the label there.'
+#[tactic(auto, unfolding(crate::specs::Rule::recording_at))]
 fn recording_at(places: [Stamped; 16], p: u8) -> Copy
     ensures { result ≡ recording_at places p }
 {
-    let l = label_at(places, p as usize);
-    Copy::Recording { place: p, mi: l.mi }
+    Copy::Recording {
+        place: p,
+        mi: label_at(places, p as usize).mi,
+    }
 }
 
-// By the clock, 'which comes before prepared, and before the start after its 60 seconds, and ends it', or else what is said next. The time is
-// asked first: most timers' days are others, and then no place is looked at.
+// The time is asked first: most timers' days are others, and then no place is looked at.
+fn is_clocked(s: u32, places: [Stamped; 16], b: Booking) -> bool
+    ensures { result ≡ clocked s places b }
+{
+    on_time(s, b) && labels_fail(s, places, b.tuner)
+}
+
+// By the clock, 'which comes before prepared, and before the start after its 60 seconds, and ends it', or else what is said next.
+#[tactic(auto, unfolding(crate::specs::Rule::clock_or))]
 fn clock_or(s: u32, places: [Stamped; 16], b: Booking, next: Copy) -> Copy
     ensures { result ≡ clock_or s places b next }
 {
-    let near = on_time(s, b);
-    if !near {
-        return next;
-    }
-    let failing = labels_fail(s, places, b.tuner);
-    if failing {
+    if is_clocked(s, places, b) {
         return Copy::ByTheClock;
     }
     next
@@ -57,8 +64,7 @@ fn not_live(s: u32, places: [Stamped; 16], b: Booking, seen: Sight) -> Copy
 fn kept_or_started(s: u32, places: [Stamped; 16], v: u32, q: u8) -> Copy
     ensures { result ≡ cond (ltb prepare_for (s - v)) (recording_at places q) (Copy.Prepared v) }
 {
-    let long = (v as u64 + PREPARE_FOR) < s as u64;
-    if long {
+    if v as u64 + PREPARE_FOR < s as u64 {
         return recording_at(places, q);
     }
     Copy::Prepared { since: v }
@@ -69,9 +75,8 @@ fn moves_or(places: [Stamped; 16], seen: Sight, next: Copy) -> Copy
     ensures { result ≡ moves_or places seen next }
 {
     match seen {
-        Sight::Nothing => next,
-        Sight::Prepare(_) => next,
         Sight::Start(q) => recording_at(places, q),
+        _ => next,
     }
 }
 
@@ -82,15 +87,13 @@ fn from_recording(s: u32, places: [Stamped; 16], b: Booking, p: u8, mi: bool) ->
     ensures { result ≡ next_copy s places b (Copy.Recording p mi) }
 {
     let own = label_at(places, p as usize);
-    let still = matches(s, b, own);
-    if still {
+    if matches(s, b, own) {
         return Copy::Recording {
             place: p,
             mi: own.mi,
         };
     }
-    let open = open_at(s, b);
-    if !open {
+    if !open_at(s, b) {
         return Copy::Waiting;
     }
     let seen = sight_of(s, places, b);
@@ -104,13 +107,11 @@ fn from_recording(s: u32, places: [Stamped; 16], b: Booking, p: u8, mi: bool) ->
 fn from_running_on(s: u32, places: [Stamped; 16], b: Booking, p: u8, v: u32) -> Copy
     ensures { result ≡ next_copy s places b (Copy.RunningOn p v) }
 {
-    let open = open_at(s, b);
-    if !open {
+    if !open_at(s, b) {
         return Copy::Waiting;
     }
     let seen = sight_of(s, places, b);
-    let on = (s as u64) < v as u64 + RUN_FOR;
-    if on {
+    if (s as u64) < v as u64 + RUN_FOR {
         return moves_or(places, seen, Copy::RunningOn { place: p, since: v });
     }
     not_live(s, places, b, seen)
@@ -120,8 +121,7 @@ fn from_running_on(s: u32, places: [Stamped; 16], b: Booking, p: u8, v: u32) -> 
 fn from_waiting(s: u32, places: [Stamped; 16], b: Booking) -> Copy
     ensures { result ≡ not_live s places b (sight_of s places b) }
 {
-    let seen = sight_of(s, places, b);
-    not_live(s, places, b, seen)
+    not_live(s, places, b, sight_of(s, places, b))
 }
 
 // 'Without a break': what waits has no second, and being prepared later counts anew. As in `from_waiting`, nothing asks whether the window
@@ -129,13 +129,9 @@ fn from_waiting(s: u32, places: [Stamped; 16], b: Booking) -> Copy
 fn from_prepared(s: u32, places: [Stamped; 16], b: Booking, v: u32) -> Copy
     ensures { result ≡ from_prepared s places b v (sight_of s places b) }
 {
-    let now = sight_of(s, places, b);
-    match now {
+    match sight_of(s, places, b) {
         Sight::Nothing => clock_or(s, places, b, Copy::Waiting), // a break
-        Sight::Prepare(q) => {
-            let next = kept_or_started(s, places, v, q);
-            clock_or(s, places, b, next)
-        }
+        Sight::Prepare(q) => clock_or(s, places, b, kept_or_started(s, places, v, q)),
         Sight::Start(q) => recording_at(places, q),
     }
 }
@@ -153,56 +149,33 @@ fn next_copy(s: u32, places: [Stamped; 16], b: Booking, c: Copy) -> Copy
     }
 }
 
+#[tactic(auto, unfolding(crate::specs::Rule::next_timer))]
 pub fn next_timer(s: u32, places: [Stamped; 16], t: Timer) -> Timer
     ensures { result ≡ next_timer s places t }
 {
-    let b = t.booking;
-    let c = t.copy;
-    let next = next_copy(s, places, b, c);
     Timer {
-        booking: b,
-        copy: next,
+        copy: next_copy(s, places, t.booking, t.copy),
+        ..t
     }
 }
 
-// 'Recording or running on.'
+// 'Recording or running on', which is walked to its end; being by the clock 'follows from the time alone'.
 pub fn is_by_labels(c: Copy) -> bool
     ensures { result ≡ by_labels c }
 {
-    match c {
-        Copy::Free => false,
-        Copy::Waiting => false,
-        Copy::Prepared { since: _ } => false,
-        Copy::Recording { place: _, mi: _ } => true,
-        Copy::RunningOn { place: _, since: _ } => true, // walked to its end
-        Copy::ByTheClock => false, // 'follows from the time alone'
-    }
+    matches!(c, Copy::Recording { .. } | Copy::RunningOn { .. })
 }
 
 // 'Live means recording or running on'; by the clock 'counts as live'.
 pub fn is_live(c: Copy) -> bool
     ensures { result ≡ is_live c }
 {
-    match c {
-        Copy::Free => false,
-        Copy::Waiting => false,
-        Copy::Prepared { since: _ } => false,
-        Copy::Recording { place: _, mi: _ } => true,
-        Copy::RunningOn { place: _, since: _ } => true,
-        Copy::ByTheClock => true, // 'counts as live'
-    }
+    is_by_labels(c) || matches!(c, Copy::ByTheClock)
 }
 
 // A slot that is not free.
 pub fn is_held(c: Copy) -> bool
     ensures { result ≡ held c }
 {
-    match c {
-        Copy::Free => false,
-        Copy::Waiting => true,
-        Copy::Prepared { since: _ } => true,
-        Copy::Recording { place: _, mi: _ } => true,
-        Copy::RunningOn { place: _, since: _ } => true,
-        Copy::ByTheClock => true,
-    }
+    !matches!(c, Copy::Free)
 }

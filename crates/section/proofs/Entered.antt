@@ -7,21 +7,21 @@ use native.Mathlib.Omega.{arith}
 use native.Mathlib.Decide.{dec_lt}
 use lib.ListN.{length, get_or, take, set, replicate, length-append}
 use lib.Seq.{sets, take-suc, take_all, length-take-le}
-use Rattle.answer.specs.Answer.{Answer, refused, given, number, after}
+use Rattle.std.proofs.Common.{Option, None, Some, Result}
+use Rattle.answer.specs.Answer.{Answer, refused, given}
 use Rattle.answer.specs.Lists.{filled}
 use Rattle.answer.proofs.Filled.{filled_more}
 use Rattle.preview.specs.declared.Programme.{Programme}
-use Rattle.preview.specs.declared.Reading.{Reading}
+use Rattle.preview.specs.declared.Page.{Page}
+use Rattle.preview.specs.declared.Refusal.{Refusal}
 use Rattle.preview.specs.Page.{Answers}
-use Rattle.preview.specs.Taken.{blank, page_of, read_number, ReadAs}
+use Rattle.preview.specs.Taken.{blank, reading_answer, paged, ReadAs}
 use Rattle.collected.proofs.Readings.{Sound, sound, first_places}
 use Rattle.booked.specs.declared.Booked.{Booked}
-use Rattle.booked.specs.declared.Timer.{Timer}
-use Rattle.booked.specs.declared.Timer.TheVariants.{NotRecorded, Timed}
 use Rattle.booked.specs.Timer.{timer_of}
 use Rattle.table.specs.Table.{most}
 use Rattle.section.specs.declared.Entries.{Entries}
-use Rattle.section.specs.Section.{entry_of, onto_timers, timers_of, entries_of, section_of, written, longest, section_by}
+use Rattle.section.specs.Section.{entry_of, onto_timers, timers_of, entries_of, section_of, written, longest, held_as, section_by}
 use Rattle.section.specs.Taken.{entered, after_timer, counted, section_read}
 
 pub nine : (tuner : ℕ) (b : Booked) → length (entry_of tuner b) ≡ 9
@@ -51,28 +51,28 @@ pub entered_none : (tuner : ℕ) (qs : List Programme) → record { count = 0; b
 unfolding entered entries_of timers_of
 entered_none tuner qs = refl
 
-entered_timed : (bs : List Booked) (tuner : ℕ) (b : Booked) → entered tuner (bs ++ (b ∷ [])) ≡ after_timer tuner (entered tuner bs) (Timed b)
+entered_timed : (bs : List Booked) (tuner : ℕ) (b : Booked) → entered tuner (bs ++ (b ∷ [])) ≡ after_timer tuner (entered tuner bs) (Some b)
 unfolding entered after_timer
 entered_timed bs tuner b =
     let n : length (bs ++ (b ∷ [])) ≡ length bs + 1 = length-append bs (b ∷ []) in
     let at : 1 + 9 * length bs ≡ length (0 ∷ entries_of tuner bs) = omega (arith, entries_length bs tuner) in
     rw (n, entries_more bs tuner b, at, filled_append 0 longest (entry_of tuner b) (0 ∷ entries_of tuner bs)) refl
 
-entered_more : (bs : List Booked) (tuner : ℕ) (t : Timer) → entered tuner (bs ++ onto_timers t []) ≡ after_timer tuner (entered tuner bs) t
+entered_more : (bs : List Booked) (tuner : ℕ) (t : Option Booked) → entered tuner (bs ++ onto_timers t []) ≡ after_timer tuner (entered tuner bs) t
 unfolding after_timer
-entered_more bs tuner NotRecorded =
-    let none : bs ++ onto_timers NotRecorded [] ≡ bs = append-nil bs in
+entered_more bs tuner None =
+    let none : bs ++ onto_timers None [] ≡ bs = append-nil bs in
     rw none refl
-entered_more bs tuner (Timed b) = entered_timed bs tuner b
+entered_more bs tuner (Some b) = entered_timed bs tuner b
 
 timers_more : (qs : List Programme) (q : Programme) → timers_of (qs ++ (q ∷ [])) ≡ timers_of qs ++ onto_timers (timer_of q) []
 unfolding timers_of
 timers_more [] q = refl
 timers_more (p ∷ qs) q = rw (timers_more qs q) (sym (onto_append (timer_of p) (timers_of qs) (onto_timers (timer_of q) [])))
   where
-    onto_append : (t : Timer) (bs cs : List Booked) → onto_timers t bs ++ cs ≡ onto_timers t (bs ++ cs)
-    onto_append NotRecorded bs cs = refl
-    onto_append (Timed b) bs cs = refl
+    onto_append : (t : Option Booked) (bs cs : List Booked) → onto_timers t bs ++ cs ≡ onto_timers t (bs ++ cs)
+    onto_append None bs cs = refl
+    onto_append (Some b) bs cs = refl
 
 -- one programme more
 pub entered_further : (qs : List Programme) (tuner i : ℕ) → i < length qs →
@@ -86,9 +86,9 @@ unfolding timers_of
 few_timers [] = omega arith
 few_timers (q ∷ qs) = omega (arith, few_timers qs, one (timer_of q) (timers_of qs))
   where
-    one : (t : Timer) (bs : List Booked) → length (onto_timers t bs) ≤ length bs + 1
-    one NotRecorded bs = omega arith
-    one (Timed b) bs = omega arith
+    one : (t : Option Booked) (bs : List Booked) → length (onto_timers t bs) ≤ length bs + 1
+    one None bs = omega arith
+    one (Some b) bs = omega arith
 
 section_length : (tuner : ℕ) (bs : List Booked) → length (section_of tuner bs) ≡ 1 + 9 * length bs
 unfolding section_of
@@ -104,17 +104,15 @@ few_entered qs tuner i had h e =
     omega (arith, ap (λ (x : Entries). x.count) e, few_timers (take i qs), length-take-le i qs h)
 
 -- those of a page, where no more are counted than it has room for
-pub all_entered : (qs : List Programme) (tuner count i : ℕ) → length qs ≡ most → i ≡ min count most →
-    entered tuner (timers_of (take i qs)) ≡ entered tuner (timers_of (take count qs))
-all_entered qs tuner count i l e =
-    ap (λ (ps : List Programme). entered tuner (timers_of ps))
-    (elim (dec_lt count most) [
-      | yes h ↦ let same : i ≡ count = omega arith in rw same refl
-      | no h ↦ take_all i qs (omega arith) ∙ sym (take_all count qs (omega arith))
-    ])
+pub all_shown : (qs : List Programme) (count : ℕ) → length qs ≡ most → take (min count most) qs ≡ take count qs
+all_shown qs count e =
+    elim (dec_lt count most) [
+      | yes h ↦ let same : min count most ≡ count = omega arith in rw same refl
+      | no h ↦ take_all (min count most) qs (omega arith) ∙ sym (take_all count qs (omega arith))
+    ]
 
 -- all of them, with their count
-pub all_counted : (tuner : ℕ) (qs : List Programme) → counted (entered tuner (timers_of qs)) ≡ section_by tuner (given qs)
+pub all_counted : (tuner : ℕ) (qs : List Programme) → counted (entered tuner (timers_of qs)) ≡ held_as (written tuner (given qs))
 unfolding counted entered section_of
 all_counted tuner qs =
     let text : written tuner (given qs) ≡ length (timers_of qs) ∷ entries_of tuner (timers_of qs) = refl in
@@ -128,11 +126,11 @@ few_bytes tuner (refused n) s =
 few_bytes tuner (given qs) s = omega (arith, section_length tuner (timers_of qs), few_timers qs)
 
 -- a page as the reader gives it
-same_section : (tuner : ℕ) (a : Answer (List Programme)) → Sound a → section_read tuner (number a) (page_of (after [] a)) ≡ section_by tuner a
+same_section : (tuner : ℕ) (a : Answer (List Programme)) → Sound a → section_read tuner (paged a) ≡ section_by tuner a
 unfolding section_read
-same_section tuner (refused n) s = rw s refl
+same_section tuner (refused n) s = refl
 same_section tuner (given qs) s = rw (first_places qs s) refl
 
-pub read_section : (tuner : ℕ) (p : List ℕ) (r : Reading) → ReadAs p r →
-    (a : Answer (List Programme)) × Answers p a × (section_read tuner (read_number r.verdict) r.page ≡ section_by tuner a)
-read_section tuner p r (a, w, e, f) = (a, w, rw (e, f) (same_section tuner a (sound p a w)))
+pub read_section : (tuner : ℕ) (p : List ℕ) (r : Result Page Refusal) → ReadAs p r →
+    (a : Answer (List Programme)) × Answers p a × (section_read tuner (reading_answer r) ≡ section_by tuner a)
+read_section tuner p r (a, w, e) = (a, w, ap (section_read tuner) e ∙ same_section tuner a (sound p a w))

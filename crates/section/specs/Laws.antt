@@ -1,11 +1,13 @@
 -- What is claimed of a page's timers section. Proved in proofs/Proved.antt.
-use Rattle.std.specs.Prelude.{ℕ, ◌≤◌, ◌<◌, Bool, true, ◌≡◌, List, [], ◌∷◌, ◌++◌, map, length, take, drop, get_or}
+use Rattle.std.specs.Prelude.{ℕ, ◌≤◌, ◌<◌, Bool, true, ◌≡◌, List, [], ◌∷◌, ◌++◌, map, length, take, drop, get_or, Result}
 use Rattle.answer.specs.Answer.{Answer, Unique}
 use Rattle.answer.specs.Lists.{joined}
 use Rattle.answer.specs.Bytes.{number_of}
 use Rattle.items.specs.Items.{timer, onto, next, on_packet_count, items_of}
 use Rattle.preview.specs.declared.Programme.{Programme}
+use Rattle.preview.specs.declared.Refusal.{Refusal}
 use Rattle.preview.specs.Page.{Answers}
+use Rattle.preview.specs.Taken.{reading_answer}
 use Rattle.booked.specs.declared.Booked.{Booked}
 use Rattle.section.specs.declared.Section.{Section}
 use Rattle.section.specs.declared.Asked.{Asked}
@@ -23,7 +25,7 @@ pub record Laws : Type 0 where
   -- however the input arrives in pieces, what is written is the one definition's
   pub pieces : (ps : List (List ℕ)) → SectionAs (after_pieces ps nothing) (section_in (joined ps))
   -- once no byte more decides anything, whatever follows writes the same: nothing more need be read
-  pub settled : (ps : List (List ℕ)) (k : Asked) (r : Section) → is_full k ≡ true → SectionAs k r → SectionAs (after_pieces ps k) r
+  pub settled : (ps : List (List ℕ)) (k : Asked) (r : Answer Section) → is_full k ≡ true → SectionAs k r → SectionAs (after_pieces ps k) r
   -- the section finds room
   pub room : (tuner : ℕ) (page : List ℕ) (a : Answer (List Programme)) → Answers page a → length (written tuner a) ≤ longest
   -- a sheet that begins with it holds these timers, in this order, and then what follows it: no byte of one is taken for another
@@ -37,4 +39,4 @@ pub record Laws : Type 0 where
   pub new_unique : Unique (λ (r : Asked). r ≡ nothing)
   pub feed_unique : (k : Asked) (piece : List ℕ) → Unique {A = Asked × List ℕ} (λ o. (o.0 ≡ after_piece piece k) × (o.1 ≡ piece))
   pub full_unique : (k : Asked) → Unique (λ (r : Bool). r ≡ is_full k)
-  pub section_unique : (k : Asked) → Unique (λ r. SectionAs k r)
+  pub section_unique : (k : Asked) → Unique (λ (r : Result Section Refusal). SectionAs k (reading_answer r))

@@ -1,11 +1,9 @@
 -- The timers section of a sheet, out of a preview page (document 02, #108).
-use Rattle.std.specs.Prelude.{ℕ, zero, suc, ◌/◌, ◌%◌, List, [], ◌∷◌, ◌++◌, length}
-use Rattle.answer.specs.Answer.{Answer, refused, given, number}
+use Rattle.std.specs.Prelude.{ℕ, zero, suc, ◌/◌, ◌%◌, List, [], ◌∷◌, ◌++◌, length, Option, None, Some}
+use Rattle.answer.specs.Answer.{Answer, refused, given}
 use Rattle.answer.specs.Lists.{filled}
 use Rattle.preview.specs.declared.Programme.{Programme}
 use Rattle.booked.specs.declared.Booked.{Booked}
-use Rattle.booked.specs.declared.Timer.{Timer}
-use Rattle.booked.specs.declared.Timer.TheVariants.{NotRecorded, Timed}
 use Rattle.booked.specs.Timer.{timer_of}
 use Rattle.section.specs.declared.Section.{Section}
 
@@ -21,9 +19,9 @@ entry_of tuner b = bytes_in 2 b.cni ++ (bytes_in 3 b.pil ++ (b.year ∷ tuner �
 
 -- ── the section ────────────────────────────────────────────────────────────────────────────────────────────────────
 -- '2500 gives no timer'
-abbrev pub onto_timers : Timer → List Booked → List Booked
-onto_timers NotRecorded bs = bs
-onto_timers (Timed b) bs = b ∷ bs
+abbrev pub onto_timers : Option Booked → List Booked → List Booked
+onto_timers None bs = bs
+onto_timers (Some b) bs = b ∷ bs
 
 -- the timers of a page's programmes, in page order
 unfoldable pub timers_of : List Programme → List Booked
@@ -48,6 +46,11 @@ written tuner (given qs) = section_of tuner (timers_of qs)
 abbrev pub longest : ℕ
 longest = 217
 
--- 'a refused page gives its number on standard error'; one that is read has the number 0
-abbrev pub section_by : ℕ → Answer (List Programme) → Section
-section_by tuner a = record { number = number a; length = length (written tuner a); bytes = filled longest 0 (written tuner a) }
+-- as it is held: so many bytes, filled up
+abbrev pub held_as : List ℕ → Section
+held_as text = record { length = length text; bytes = filled longest 0 text }
+
+-- 'a refused page gives its number on standard error'
+abbrev pub section_by : ℕ → Answer (List Programme) → Answer Section
+section_by tuner (refused n) = refused n
+section_by tuner (given qs) = given (held_as (written tuner (given qs)))

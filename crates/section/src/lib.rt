@@ -2,17 +2,19 @@
 #![tactic(auto)]
 
 ghost use Rattle.std.specs.Prelude.{true, ◌≡◌};
-ghost use Rattle.section.specs.Asked.{nothing, after_piece, is_full, SectionAs};
+ghost use Rattle.preview.specs.Taken.{reading_answer};
+ghost use Rattle.section.specs.Asked.{nothing, after_piece, is_full, left, SectionAs};
 ghost use Rattle.section.specs.Laws.{Laws};
 
 use collected::Collected;
+use held::Collecting;
+use preview::Refusal;
 
 mod timers; // a page's timers as the entries of a sheet
 
-// What is written: the first `length` bytes. A refused page has a number, and no byte.
+// What is written: the first `length` bytes.
 #[derive(Clone, Copy)]
 pub struct Section {
-    pub number: u8,
     pub length: usize,
     pub bytes: [u8; 217],
 }
@@ -27,8 +29,7 @@ struct Entries {
 // What is asked for, as far as it has arrived: the home tuner, once a byte has, and the page.
 #[derive(Clone, Copy)]
 pub struct Asked {
-    pub begun: bool,
-    pub tuner: u8,
+    pub tuner: Option<u8>,
     pub page: Collected,
 }
 
@@ -38,8 +39,7 @@ impl Asked {
         ensures { result ≡ nothing }
     {
         Asked {
-            begun: false,
-            tuner: 0,
+            tuner: None,
             page: Collected::new(),
         }
     }
@@ -49,21 +49,16 @@ impl Asked {
         ensures value { result ≡ after_piece piece.now self }
         ensures piece_value { piece.exit.now ≡ piece.entry.now }
     {
-        let page = self.page;
-        if self.begun {
-            return Asked {
-                begun: true,
-                tuner: self.tuner,
-                page: page.feed(piece),
-            };
-        }
-        if piece.len() == 0 {
-            return self;
-        }
-        Asked {
-            begun: true,
-            tuner: piece[0],
-            page: page.feed(&piece[1..]),
+        match self.tuner {
+            Some(_) => Asked {
+                page: self.page.feed(piece),
+                ..self
+            },
+            None if piece.is_empty() => self,
+            None => Asked {
+                tuner: Some(piece[0]),
+                page: self.page.feed(&piece[1..]),
+            },
         }
     }
 
@@ -71,18 +66,28 @@ impl Asked {
     pub fn full(self) -> bool
         ensures { result ≡ is_full self }
     {
-        let page = self.page;
-        self.begun & page.full()
+        self.tuner.is_some() && self.page.full()
     }
 
-    // The input's end: the section, or the page's number.
-    pub fn section(self) -> Section
-        ensures { SectionAs self result }
+    // The input's end: the section, or why the page is refused.
+    pub fn section(self) -> Result<Section, Refusal>
+        ensures { SectionAs self (reading_answer result) }
     {
-        let tuner = self.tuner;
-        let page = self.page;
-        let reading = page.read();
-        timers::section_of(tuner, reading)
+        timers::section_of(self.tuner.unwrap_or(0), self.page.read())
+    }
+}
+
+impl Collecting for Asked {
+    ghost left = { left };
+
+    ghost after = { after_piece };
+
+    fn fed(self, piece: &[u8]) -> Asked {
+        self.feed(piece)
+    }
+
+    fn is_full(self) -> bool {
+        self.full()
     }
 }
 

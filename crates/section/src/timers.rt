@@ -1,14 +1,14 @@
 // A page's timers as the entries of a sheet, one after the other.
 ghost use Rattle.std.specs.Prelude.{◌+◌, ◌<◌, ◌≤◌, ◌≡◌, take};
 ghost use Rattle.std.proofs.lemmas.List.Edits.{sets};
-ghost use Rattle.preview.specs.Taken.{read_number};
+ghost use Rattle.preview.specs.Taken.{reading_answer};
 ghost use Rattle.section.specs.Section.{entry_of, timers_of};
 ghost use Rattle.section.specs.Taken.{entered, after_timer, counted, section_read};
 
 use crate::{Entries, Section};
 use answer::least;
-use booked::{Booked, Timer};
-use preview::{Programme, Reading};
+use booked::Booked;
+use preview::{Page, Programme, Refusal};
 
 // No page has more programmes.
 const MOST: usize = 24;
@@ -37,30 +37,22 @@ fn put(bytes: [u8; 217], at: usize, entry: [u8; 9]) -> [u8; 217]
     ensures { result ≡ sets bytes at entry }
 {
     let mut all = bytes;
-    let mut j: usize = 0;
-    while j < 9 {
-        all[at + j] = entry[j];
-        j += 1;
-    }
+    all[at..at + 9].copy_from_slice(&entry);
     all
 }
 
 // '2500 gives no timer.'
 #[tactic(auto, unfolding(crate::specs::Taken::after_timer))]
-fn after_timer(tuner: u8, had: Entries, timer: Timer) -> Entries
+fn after_timer(tuner: u8, had: Entries, timer: Option<Booked>) -> Entries
     requires { had.count < 24 }
     ensures { result ≡ after_timer tuner had timer }
 {
     match timer {
-        Timer::NotRecorded => had,
-        Timer::Timed(b) => {
-            let count = had.count;
-            let bytes = had.bytes;
-            Entries {
-                count: count + 1,
-                bytes: put(bytes, 1 + 9 * count, entry(tuner, b)),
-            }
-        }
+        None => had,
+        Some(b) => Entries {
+            count: had.count + 1,
+            bytes: put(had.bytes, 1 + 9 * had.count, entry(tuner, b)),
+        },
     }
 }
 
@@ -72,10 +64,8 @@ fn entries_of(tuner: u8, programmes: [Programme; 24], count: usize) -> Entries
         count: 0,
         bytes: [0; 217],
     };
-    let mut i: usize = 0;
-    while i < shown {
-        had = after_timer(tuner, had, booked::timer_of(programmes[i]));
-        i += 1;
+    for q in &programmes[..shown] {
+        had = after_timer(tuner, had, booked::timer_of(*q));
     }
     had
 }
@@ -87,28 +77,18 @@ fn counted(all: Entries) -> Section
     ensures { result ≡ counted all }
 {
     let mut bytes = all.bytes;
-    let count = all.count;
-    bytes[0] = count as u8;
+    bytes[0] = all.count as u8;
     Section {
-        number: 0,
-        length: 1 + 9 * count,
+        length: 1 + 9 * all.count,
         bytes,
     }
 }
 
 // 'A refused page gives its number .. nothing on standard output.'
-pub(crate) fn section_of(tuner: u8, reading: Reading) -> Section
-    ensures { result ≡ section_read tuner (read_number reading.verdict) reading.page }
+#[tactic(auto, using(crate::proofs::Entered::all_counted), unfolding(crate::specs::Taken::section_read))]
+pub(crate) fn section_of(tuner: u8, reading: Result<Page, Refusal>) -> Result<Section, Refusal>
+    ensures { reading_answer result ≡ section_read tuner (reading_answer reading) }
 {
-    let verdict = reading.verdict;
-    let number = verdict.number();
-    if number == 0 {
-        let programmes = reading.page.programmes;
-        return counted(entries_of(tuner, programmes, reading.page.count));
-    }
-    Section {
-        number,
-        length: 0,
-        bytes: [0; 217],
-    }
+    let page = reading?;
+    Ok(counted(entries_of(tuner, page.programmes, page.count)))
 }

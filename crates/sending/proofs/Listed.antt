@@ -1,12 +1,12 @@
 -- The first programmes of a page, one after the other.
-use Prim.Native.Nat.{ℕ, ◌+◌, ◌≤◌, ◌<◌, min}
+use Prim.Native.Nat.{ℕ, ◌+◌, ◌<◌, min}
 use mathlib.Core.Path.{◌≡◌, refl, sym, ap, ◌∙◌}
-use mathlib.Core.List.{List, [], ◌∷◌}
+use mathlib.Core.List.{List, ◌∷◌}
 use native.Mathlib.Decide.{dec_lt}
 use native.Mathlib.Numerals.{add-one}
 use native.Mathlib.Omega.{arith}
-use lib.ListN.{length, get_or, take, drop, drop_of_length-le}
-use lib.Seq.{drop-cons, get_or-take, take_all, length-take-le}
+use lib.ListN.{length, get_or, take, drop}
+use lib.Seq.{drop-cons, take_all}
 
 module _ {A : Type 0} where
   -- there are no more than the array has
@@ -17,12 +17,6 @@ module _ {A : Type 0} where
         | no h ↦ let same : k ≡ n = omega arith in ap (λ (j : ℕ). take j xs) same
       ]
 
-  -- the next of the first n
-  pub next : (xs : List A) (n i : ℕ) (d : A) → i < n → n ≤ length xs → drop i (take n xs) ≡ get_or xs i d ∷ drop (i + 1) (take n xs)
-  next xs n i d h l =
-      let m = length-take-le n xs l in
-      let k : i < length (take n xs) = omega arith in
-      drop-cons (take n xs) i d k ∙ rw (get_or-take n xs i d h, add-one i) refl
-
-  pub none_left : (xs : List A) (n i : ℕ) → n ≤ i → n ≤ length xs → drop i (take n xs) ≡ []
-  none_left xs n i h l = let m = length-take-le n xs l in drop_of_length-le (take n xs) {i = i} (omega arith)
+  -- the next
+  pub next : (xs : List A) (i : ℕ) (d : A) → i < length xs → drop i xs ≡ get_or xs i d ∷ drop (i + 1) xs
+  next xs i d h = drop-cons xs i d h ∙ rw (add-one i) refl

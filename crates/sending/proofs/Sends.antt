@@ -1,4 +1,5 @@
 -- Groups sent one after the other: what is there then, and how many they are.
+use Rattle.std.specs.Prelude.{Option, None, Some}
 use Prim.Native.Nat.{ℕ, ◌+◌, ◌≤◌}
 use mathlib.Core.Path.{◌≡◌, refl, sym, ap, ◌∙◌}
 use mathlib.Core.Bool.{Bool, true, false, cond}
@@ -10,8 +11,6 @@ use Rattle.group.specs.declared.Group.TheVariants as group
 use Rattle.group.specs.Group.{bits_of}
 use Rattle.programmes.specs.declared.Finish.{Finish}
 use Rattle.programmes.specs.declared.Finish.TheVariants as finish
-use Rattle.programmes.specs.declared.Series.{Series}
-use Rattle.programmes.specs.declared.Series.TheVariants as series
 use Rattle.programmes.specs.declared.Programme.{Programme}
 use Rattle.programmes.specs.declared.InForce.{InForce}
 use Rattle.answer.specs.Lists.{filled}
@@ -92,9 +91,9 @@ finish_few row column finish.Absent = omega arith
 finish_few row column (finish.Time h m) = omega arith
 finish_few row column (finish.Duration h m) = omega arith
 
-series_few : (x : Series) → length (series_sent x) ≤ 1
-series_few series.Absent = omega arith
-series_few (series.Code k) = omega arith
+series_few : (x : Option ℕ) → length (series_sent x) ≤ 1
+series_few None = omega arith
+series_few (Some k) = omega arith
 
 both_few : (xs ys : List Group) {m n : ℕ} → length xs ≤ m → length ys ≤ n → length (xs ++ ys) ≤ m + n
 both_few xs ys a b = omega (arith, length-append xs ys)

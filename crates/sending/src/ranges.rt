@@ -3,7 +3,7 @@ ghost use Rattle.std.specs.Prelude.{◌||◌, ◌≡◌, ltb};
 ghost use Rattle.programmes.specs.Written.{outside_offset, outside_finish, outside_series};
 
 use group::Offset;
-use programmes::{Finish, Series};
+use programmes::Finish;
 
 // 'Month not 1 to 12, day not 1 to 31, hour above 23, minute above 59.'
 pub(crate) fn outside_time(month: u8, day: u8, hour: u8, minute: u8) -> bool
@@ -40,11 +40,11 @@ pub(crate) fn outside_finish(x: Finish) -> bool
     }
 }
 
-pub(crate) fn outside_series(x: Series) -> bool
+pub(crate) fn outside_series(x: Option<u8>) -> bool
     ensures { result ≡ outside_series x }
 {
     match x {
-        Series::Absent => false,
-        Series::Code(code) => 127 < code,
+        None => false,
+        Some(code) => 127 < code,
     }
 }

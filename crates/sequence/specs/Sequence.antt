@@ -1,12 +1,11 @@
 -- A page's data groups taken one at a time, as the reader takes them. What they mean is said in `programmes`, Meaning.antt; the laws
 -- say that this is the same.
-use Rattle.std.specs.Prelude.{ℕ, Bool, false, cond, not, ◌&&◌, ◌||◌, List, [], ◌∷◌, ◌++◌}
+use Rattle.std.specs.Prelude.{ℕ, Bool, false, cond, not, ◌&&◌, ◌||◌, List, [], ◌∷◌, ◌++◌, Option, None, Some}
+use Rattle.std.specs.Option.{is_some}
 use Rattle.group.specs.declared.Group.{Group}
 use Rattle.group.specs.declared.Group.TheVariants as group
 use Rattle.programmes.specs.declared.Finish.{Finish}
 use Rattle.programmes.specs.declared.Finish.TheVariants as finish
-use Rattle.programmes.specs.declared.Series.{Series}
-use Rattle.programmes.specs.declared.Series.TheVariants as series
 use Rattle.programmes.specs.declared.Programme.{Programme}
 use Rattle.programmes.specs.declared.InForce.{InForce}
 use Rattle.programmes.specs.Meaning.{is_terminator, is_start, nothing, in_force, programme_by}
@@ -36,7 +35,7 @@ state_after s g =
       force = in_force s.force g;
       held = held_after s.held g;
       ended = is_terminator g;
-      lacking = s.lacking || (is_start g && not (s.force.sourced && s.force.dated));
+      lacking = s.lacking || (is_start g && not (is_some s.force.source && is_some s.force.date));
     })
 
 unfoldable pub state_from : State → List Group → State
@@ -52,7 +51,7 @@ pair_by f group.Other column minute = Nothing
 pair_by f (group.Source c s) column minute = Nothing
 pair_by f (group.Date m d) column minute = Nothing
 pair_by f (group.Offset r o) column minute = Nothing
-pair_by f (group.Start r h c) column minute = Begins (programme_by f r h c column minute finish.Absent series.Absent)
+pair_by f (group.Start r h c) column minute = Begins (programme_by f r h c column minute finish.Absent None)
 pair_by f (group.Minutes c m) column minute = Nothing
 pair_by f (group.Finish r h d) column minute = Finishes (finish_of h minute d)
 pair_by f (group.Series k) column minute = Nothing
@@ -89,7 +88,7 @@ with_finish x q = record {
   series = q.series;
 }
 
-abbrev pub with_series : Series → Programme → Programme
+abbrev pub with_series : Option ℕ → Programme → Programme
 with_series x q = record {
   row = q.row;
   column = q.column;
@@ -115,7 +114,7 @@ abbrev pub changed : Change → List Programme → List Programme
 changed Nothing qs = qs
 changed (Begins q) qs = qs ++ (q ∷ [])
 changed (Finishes x) qs = on_last (with_finish x) qs
-changed (InSeries k) qs = on_last (with_series (series.Code k)) qs
+changed (InSeries k) qs = on_last (with_series (Some k)) qs
 
 unfoldable pub programmes_from : State → List Programme → List Group → List Programme
 programmes_from s qs [] = qs

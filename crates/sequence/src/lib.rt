@@ -4,12 +4,11 @@
 ghost use Rattle.std.specs.Prelude.{true, ◌≡◌};
 ghost use Rattle.programmes.specs.Meaning.{in_force, is_start, is_terminator, programme_by};
 ghost use Rattle.programmes.specs.declared.Finish.TheVariants as finish;
-ghost use Rattle.programmes.specs.declared.Series.TheVariants as series;
 ghost use Rattle.sequence.specs.Laws.{Laws};
 ghost use Rattle.sequence.specs.Sequence.{start, held_after, state_after, finish_of, pair_by, change_by};
 
 use group::Group;
-use programmes::{Finish, InForce, Programme, Series};
+use programmes::{Finish, InForce, Programme};
 
 // What a group does to the programmes so far.
 #[derive(Clone, Copy)]
@@ -30,44 +29,21 @@ pub struct State {
     pub lacking: bool,
 }
 
+#[tactic(auto, unfolding(programmes::specs::Meaning::in_force))]
 fn force_after(f: InForce, g: Group) -> InForce
     ensures { result ≡ in_force f g }
 {
-    let offset = f.offset;
     match g {
-        Group::Other => f,
         Group::Source(country, source) => InForce {
-            sourced: true,
-            country,
-            source,
-            dated: f.dated,
-            month: f.month,
-            day: f.day,
-            offset,
+            source: Some((country, source)),
+            ..f
         },
         Group::Date(month, day) => InForce {
-            sourced: f.sourced,
-            country: f.country,
-            source: f.source,
-            dated: true,
-            month,
-            day,
-            offset,
+            date: Some((month, day)),
+            ..f
         },
-        Group::Offset(_, o) => InForce {
-            sourced: f.sourced,
-            country: f.country,
-            source: f.source,
-            dated: f.dated,
-            month: f.month,
-            day: f.day,
-            offset: o,
-        },
-        Group::Start(_, _, _) => f,
-        Group::Minutes(_, _) => f,
-        Group::Finish(_, _, _) => f,
-        Group::Series(_) => f,
-        Group::Terminator => f,
+        Group::Offset(_, offset) => InForce { offset, ..f },
+        _ => f,
     }
 }
 
@@ -77,47 +53,21 @@ fn held_after(held: Group, g: Group) -> Group
 {
     match g {
         Group::Other => held,
-        Group::Source(_, _) => Group::Other,
-        Group::Date(_, _) => Group::Other,
-        Group::Offset(_, _) => Group::Other,
-        Group::Start(_, _, _) => g,
-        Group::Minutes(_, _) => Group::Other,
-        Group::Finish(_, _, _) => g,
-        Group::Series(_) => Group::Other,
-        Group::Terminator => Group::Other,
+        Group::Start(_, _, _) | Group::Finish(_, _, _) => g,
+        _ => Group::Other,
     }
 }
 
 fn is_start(g: Group) -> bool
     ensures { result ≡ is_start g }
 {
-    match g {
-        Group::Other => false,
-        Group::Source(_, _) => false,
-        Group::Date(_, _) => false,
-        Group::Offset(_, _) => false,
-        Group::Start(_, _, _) => true,
-        Group::Minutes(_, _) => false,
-        Group::Finish(_, _, _) => false,
-        Group::Series(_) => false,
-        Group::Terminator => false,
-    }
+    matches!(g, Group::Start(_, _, _))
 }
 
 fn is_terminator(g: Group) -> bool
     ensures { result ≡ is_terminator g }
 {
-    match g {
-        Group::Other => false,
-        Group::Source(_, _) => false,
-        Group::Date(_, _) => false,
-        Group::Offset(_, _) => false,
-        Group::Start(_, _, _) => false,
-        Group::Minutes(_, _) => false,
-        Group::Finish(_, _, _) => false,
-        Group::Series(_) => false,
-        Group::Terminator => true,
-    }
+    matches!(g, Group::Terminator)
 }
 
 fn finish_of(hour: u8, minute: u8, duration: bool) -> Finish
@@ -137,22 +87,23 @@ fn programme_of(
     column: u8,
     minute: u8,
 ) -> Programme
-    ensures { result ≡ programme_by f row hour controlled column minute finish.Absent series.Absent }
+    ensures { result ≡ programme_by f row hour controlled column minute finish.Absent None }
 {
-    let offset = f.offset;
+    let (country, source) = f.source.unwrap_or((0, 0));
+    let (month, day) = f.date.unwrap_or((0, 0));
     Programme {
         row,
         column,
-        day: f.day,
-        month: f.month,
+        day,
+        month,
         hour,
         minute,
         finish: Finish::Absent,
-        country: f.country,
-        source: f.source,
-        offset,
+        country,
+        source,
+        offset: f.offset,
         controlled,
-        series: Series::Absent,
+        series: None,
     }
 }
 
@@ -161,21 +112,11 @@ fn pair(f: InForce, held: Group, column: u8, minute: u8) -> Change
     ensures { result ≡ pair_by f held column minute }
 {
     match held {
-        Group::Other => Change::Nothing,
-        Group::Source(_, _) => Change::Nothing,
-        Group::Date(_, _) => Change::Nothing,
-        Group::Offset(_, _) => Change::Nothing,
         Group::Start(row, hour, controlled) => {
-            let q = programme_of(f, row, hour, controlled, column, minute);
-            Change::Begins(q)
+            Change::Begins(programme_of(f, row, hour, controlled, column, minute))
         }
-        Group::Minutes(_, _) => Change::Nothing,
-        Group::Finish(_, hour, duration) => {
-            let x = finish_of(hour, minute, duration);
-            Change::Finishes(x)
-        }
-        Group::Series(_) => Change::Nothing,
-        Group::Terminator => Change::Nothing,
+        Group::Finish(_, hour, duration) => Change::Finishes(finish_of(hour, minute, duration)),
+        _ => Change::Nothing,
     }
 }
 
@@ -192,6 +133,7 @@ impl State {
     }
 
     // 'Nothing after it counts.'
+    #[tactic(auto, unfolding(crate::specs::Sequence::state_after))]
     pub fn next(self, g: Group) -> State
         ensures { result ≡ state_after self g }
     {
@@ -199,34 +141,25 @@ impl State {
             return self;
         }
         let f = self.force;
-        let held = self.held;
-        let lacking = self.lacking | (is_start(g) & !(f.sourced & f.dated));
         State {
             force: force_after(f, g),
-            held: held_after(held, g),
+            held: held_after(self.held, g),
             ended: is_terminator(g),
-            lacking,
+            lacking: self.lacking | (is_start(g) & !(f.source.is_some() & f.date.is_some())),
         }
     }
 
+    #[tactic(auto, unfolding(crate::specs::Sequence::change_by))]
     pub fn change(self, g: Group) -> Change
         ensures { result ≡ change_by self g }
     {
         if self.ended {
             return Change::Nothing;
         }
-        let f = self.force;
-        let held = self.held;
         match g {
-            Group::Other => Change::Nothing,
-            Group::Source(_, _) => Change::Nothing,
-            Group::Date(_, _) => Change::Nothing,
-            Group::Offset(_, _) => Change::Nothing,
-            Group::Start(_, _, _) => Change::Nothing,
-            Group::Minutes(column, minute) => pair(f, held, column, minute),
-            Group::Finish(_, _, _) => Change::Nothing,
+            Group::Minutes(column, minute) => pair(self.force, self.held, column, minute),
             Group::Series(code) => Change::InSeries(code),
-            Group::Terminator => Change::Nothing,
+            _ => Change::Nothing,
         }
     }
 }

@@ -1,15 +1,14 @@
 -- How long what is printed is: no byte prints more than `longest`, so a piece that finds room is taken and stays within its share.
-use Prim.Native.Nat.{ℕ, ◌+◌, ◌-◌, ◌*◌, ◌/◌, ◌≤◌, ◌<◌}
-use mathlib.Core.Path.{◌≡◌, refl, sym, ap, ◌∙◌}
+use Prim.Native.Nat.{ℕ, ◌+◌, ◌*◌, ◌≤◌}
+use mathlib.Core.Path.{refl}
 use mathlib.Core.Bool.{Bool, true, false, cond}
 use mathlib.Core.List.{List, [], ◌∷◌, ◌++◌, append-nil}
-use borrow.Author.Tests.{le-leb, lt-leb, leb-true, leb-false}
+use borrow.Author.Tests.{le-leb}
 use native.Mathlib.Omega.{arith}
-use lib.Dec.{leb}
 use lib.ListN.{length, take, length-append}
 use Rattle.answer.specs.Answer.{Answer, refused, given, number}
-use Rattle.answer.specs.Text.{space, line_feed, digit}
-use Rattle.answer.proofs.Texts.{decimal_short, one_digit, last_digit, more_digits}
+use Rattle.answer.specs.Text.{space, line_feed}
+use Rattle.answer.proofs.Texts.{decimal_short}
 use Rattle.desk.specs.declared.Desk.{Desk}
 use Rattle.desk.specs.Calls.{add_of}
 use Rattle.desk.specs.Numbers.{said_by}
@@ -21,6 +20,7 @@ use Rattle.items.specs.Pieces.{found_at, items_found, holding, is_whole, after_b
 use Rattle.sheet.specs.declared.Sheet.{Sheet}
 use Rattle.sheet.specs.Sheet.{decimal, timer_line, packet_line, booking_in, packet_in, timer_told, packet_told, packet_left, item_told, lines_of, desk_left, last_line}
 use Rattle.sheet.specs.Pieces.{piece_told, end_told, longest, fed_by, closed_by}
+use Rattle.std.specs.Option.{IsSome, IfSome}
 use Rattle.sheet.proofs.Machine.{lines_more}
 
 -- a number has one digit or two
@@ -28,23 +28,15 @@ pub two_digits : (n : ℕ) → length (decimal n) ≤ 2
 unfolding decimal
 two_digits n = decimal_short 2 n
 
-pub below_ten : (n : ℕ) → n < 10 → decimal n ≡ digit n ∷ []
-unfolding decimal
-below_ten n h = last_digit 2 n (omega arith) h
-
-pub from_ten : (n : ℕ) → 10 ≤ n → decimal n ≡ digit (n / 10) ∷ digit n ∷ []
-unfolding decimal
-from_ten n h = more_digits 2 n (omega arith) h ∙ ap (λ (x : List ℕ). x ++ (digit n ∷ [])) (one_digit (n / 10))
-
 -- a number and the line's end
-last_short : (n : ℕ) → length (decimal n ++ (line_feed ∷ [])) ≤ 3
+pub last_short : (n : ℕ) → length (decimal n ++ (line_feed ∷ [])) ≤ 3
 last_short n = omega (arith, two_digits n, length-append (decimal n) (line_feed ∷ []))
 
-timer_short : (a : Answer ℕ) → length (timer_line a) ≤ longest
+pub timer_short : (a : Answer ℕ) → length (timer_line a) ≤ longest
 timer_short (given n) = omega (arith, last_short n)
 timer_short (refused n) = omega (arith, last_short n)
 
-packet_short : (a n : ℕ) → length (packet_line a n) ≤ longest
+pub packet_short : (a n : ℕ) → length (packet_line a n) ≤ longest
 packet_short a n = omega (arith, two_digits a, last_short n, length-append (decimal a) (space ∷ decimal n ++ (line_feed ∷ [])))
 
 item_short : (i : Item) (d : Desk) → length (item_told i d) ≤ longest
@@ -92,20 +84,13 @@ end_short ended s = go (whole_at ended s.split)
     go true = omega (arith, last_short s.desk.live)
     go false = omega (arith, last_short s.desk.live)
 
--- room for n times eight, tested so that nothing wraps
-pub room_test : (room at n : ℕ) → at ≤ room → leb n ((room - at) / 8) ≡ leb (at + longest * n) room
-room_test room at n h = go (leb n ((room - at) / 8)) refl
-  where
-    go : (t : Bool) → leb n ((room - at) / 8) ≡ t → t ≡ leb (at + longest * n) room
-    go true e = let l = leb-true n ((room - at) / 8) e in sym (le-leb (at + longest * n) room (omega arith))
-    go false e = let l = leb-false n ((room - at) / 8) e in sym (lt-leb (at + longest * n) room (omega arith))
-
+-- where there is room a piece is taken, and stays within its share of it; so is the last line
 pub fed : (piece out : List ℕ) (at : ℕ) (s : Sheet) → at + longest * length piece ≤ length out →
-    ((fed_by piece out at s).taken ≡ true) × ((fed_by piece out at s).at ≤ at + longest * length piece)
+    IsSome (fed_by piece out at s) × IfSome (fed_by piece out at s) (λ f. f.at ≤ at + longest * length piece)
 unfolding fed_by
 fed piece out at s h = rw (le-leb (at + longest * length piece) (length out) h) (refl, omega (arith, piece_short piece s))
 
 pub closed : (ended : Bool) (out : List ℕ) (at : ℕ) (s : Sheet) → at + longest ≤ length out →
-    ((closed_by ended out at s).taken ≡ true) × ((closed_by ended out at s).at ≤ at + longest)
+    IsSome (closed_by ended out at s) × IfSome (closed_by ended out at s) (λ r. r ≤ at + longest)
 unfolding closed_by
 closed ended out at s h = rw (le-leb (at + longest) (length out) h) (refl, omega (arith, end_short ended s))

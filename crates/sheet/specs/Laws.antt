@@ -1,5 +1,5 @@
 -- What is claimed of a sheet. Proved in proofs/Proved.antt.
-use Rattle.std.specs.Prelude.{ℕ, ◌≤◌, ◌<◌, Bool, true, ◌≡◌, List, [], ◌∷◌, ◌++◌, length}
+use Rattle.std.specs.Prelude.{ℕ, ◌≤◌, ◌<◌, Bool, true, ◌≡◌, List, [], ◌∷◌, ◌++◌, Option, length}
 use Rattle.answer.specs.Answer.{Unique, number, given}
 use Rattle.answer.specs.Lists.{joined}
 use Rattle.matching.specs.declared.Booking.{Booking}
@@ -10,7 +10,6 @@ use Rattle.items.specs.Items.{Item}
 use Rattle.items.specs.Pieces.{left_over}
 use Rattle.sheet.specs.declared.Sheet.{Sheet}
 use Rattle.sheet.specs.declared.Fed.{Fed}
-use Rattle.sheet.specs.declared.Closed.{Closed}
 use Rattle.sheet.specs.Sheet.{broken_line, timer_left, packet_left, desk_left, sheet_of}
 use Rattle.sheet.specs.Pieces.{blank, after_piece, piece_told, end_told, fed_by, out_after, closed_by, out_closed}
 
@@ -35,7 +34,7 @@ pub record Laws : Type 0 where
   -- each call's promise allows one outcome
   pub new_unique : Unique (λ (r : Sheet). r ≡ blank)
   pub feed_unique : (s : Sheet) (piece out : List ℕ) (at : ℕ) →
-      Unique {A = (Fed × List ℕ) × List ℕ} (λ o. ((o.0.0 ≡ fed_by piece out at s) × (o.0.1 ≡ out_after piece out at s)) × (o.1 ≡ piece))
+      Unique {A = (Option Fed × List ℕ) × List ℕ} (λ o. ((o.0.0 ≡ fed_by piece out at s) × (o.0.1 ≡ out_after piece out at s)) × (o.1 ≡ piece))
   pub left_over_unique : (s : Sheet) → Unique (λ (r : Bool). r ≡ left_over s.split.stage)
   pub close_unique : (s : Sheet) (ended : Bool) (out : List ℕ) (at : ℕ) →
-      Unique {A = Closed × List ℕ} (λ o. (o.0 ≡ closed_by ended out at s) × (o.1 ≡ out_closed ended out at s))
+      Unique {A = Option ℕ × List ℕ} (λ o. (o.0 ≡ closed_by ended out at s) × (o.1 ≡ out_closed ended out at s))

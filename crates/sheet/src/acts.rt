@@ -1,4 +1,5 @@
-// A whole item: its numbers, what it does to the desk, and what it prints.
+// A whole item: its numbers, what it does to the desk, and what it prints. `out` and `at` are two, as in `Sheet::feed`, whose promise names
+// both; a printer stands in `lines.rt`.
 ghost use Rattle.std.specs.Prelude.{◌+◌, ◌≤◌, ◌≡◌, length, take};
 ghost use Rattle.std.proofs.lemmas.List.Edits.{sets};
 ghost use Rattle.items.specs.Pieces.{items_found};
@@ -27,12 +28,9 @@ fn timer(desk: Desk, held: [u8; 47], out: &mut [u8], at: usize) -> Left
     let pil = triple(held[2], held[3], held[4]);
     let length = pair(held[7], held[8]);
     let added = desk.add(cni, pil, held[5], held[6], length);
-    let answer = added.answer;
-    let moved = added.desk;
-    let next = timer_line(out, at, answer);
     Left {
-        desk: moved,
-        at: next,
+        desk: added.desk,
+        at: timer_line(out, at, added.answer),
     }
 }
 
@@ -44,18 +42,15 @@ fn packet(desk: Desk, held: [u8; 47], out: &mut [u8], at: usize) -> Left
 {
     let time = four(held[0], held[1], held[2], held[3]);
     let heard = desk.packet(held[4], time, &held[5..47]);
-    let answer = heard.answer;
-    let left = heard.desk;
-    let number = answer.number();
-    let live = left.live();
-    let next = packet_line(out, at, number, live);
+    let number = reply::number(heard.answer);
     Left {
-        desk: left,
-        at: next,
+        desk: heard.desk,
+        at: packet_line(out, at, number, heard.desk.live()),
     }
 }
 
 // A timer and a packet move the desk and print a line, each from the bytes that are held then.
+#[tactic(auto, unfolding(crate::specs::Sheet::lines_of, crate::specs::Sheet::desk_left))]
 pub(crate) fn act(desk: Desk, found: Found, held: [u8; 47], out: &mut [u8], at: usize) -> Left
     requires { at + longest ≤ length out.old }
     ensures { let is = items_found found held in

@@ -18,18 +18,10 @@ pub struct Sheet {
     pub split: Split,
 }
 
-// What became of a piece of input: refused where the buffer might not hold what it prints.
+// A piece that was taken: the sheet after it, and the place after what it printed.
 #[derive(Clone, Copy)]
 pub struct Fed {
-    pub taken: bool,
     pub sheet: Sheet,
-    pub at: usize,
-}
-
-// What became of the input's end: refused where the buffer might not hold the last line.
-#[derive(Clone, Copy)]
-pub struct Closed {
-    pub taken: bool,
     pub at: usize,
 }
 

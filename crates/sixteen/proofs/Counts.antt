@@ -7,7 +7,7 @@ use native.Mathlib.Omega.{arith}
 use native.Mathlib.Nat.{add_assoc}
 use native.Mathlib.Numerals.{add-one}
 use mir.Val.{bool_byte}
-use lib.ListN.{length, get_or, drop, drop_of_length-le, length-map}
+use lib.ListN.{length, get_or, drop, length-map}
 use lib.Seq.{drop-cons}
 use Rattle.answer.specs.Lists.{count}
 use Rattle.sixteen.proofs.Mapped.{map_to, map_to_next}
@@ -24,9 +24,6 @@ module _ {A : Type 0} (f : A → Bool) (xs : List A) (i : ℕ) where
   count_more : (d : A) {b : Bool} → i < length xs → b ≡ f (get_or xs i d) → count f (drop i xs) ≡ bool_byte b + count f (drop (i + 1) xs)
   count_more d {b} h e = rw (drop-cons xs i d h, bit b, ← e, add-one i)
 
-  count_none : length xs ≤ i → count f (drop i xs) ≡ 0
-  count_none h = rw (drop_of_length-le xs h)
-
 -- n are counted before i, of those that f makes of xs; one turn, in which v is made at i, and counted where b says so
 module _ {A : Type 0} (f : A → A) (g : A → Bool) (xs : List A) where
   abbrev pub CountedTo : ℕ → ℕ → Type 0
@@ -42,9 +39,3 @@ module _ {A : Type 0} (f : A → A) (g : A → Bool) (xs : List A) where
   pub mapped_kept : (n i : ℕ) (ys : List A) (d : A) → i < length xs → CountedTo n i → ys ≡ map_to f i xs → f (get_or ys i d) ≡ get_or ys i d →
       g (get_or ys i d) ≡ false → CountedTo n (i + 1)
   mapped_kept n i ys d h k e q c = omega (arith, mapped_more n i ys d (get_or ys i d) h k e (sym q) (sym c))
-
-  pub mapped_all : (n i : ℕ) → length xs ≤ i → CountedTo n i → count g (map f xs) ≡ n
-  mapped_all n i h k =
-      let l : length (map f xs) ≤ i = omega (arith, length-map xs f) in
-      let z = count_none g (map f xs) i l in
-      omega (arith, k)

@@ -1,5 +1,5 @@
 -- A loop that replaces each element x of a list by f x, in order: after n turns the first n are replaced.
-use Prim.Native.Nat.{ℕ, zero, suc, ◌+◌, ◌≤◌, ◌<◌}
+use Prim.Native.Nat.{ℕ, zero, suc, ◌+◌, ◌<◌}
 use mathlib.Core.Path.{◌≡◌, refl, sym, ap, ◌∙◌}
 use mathlib.Core.List.{List, [], ◌∷◌, map}
 use lib.ListN.{length, get_or, set, get_or-map}
@@ -22,12 +22,6 @@ module _ {A : Type 0} (f : A → A) where
   map_to_suc n [] d h = absurd (not-suc-le-zero h)
   map_to_suc zero (x ∷ xs) d h = refl
   map_to_suc (suc n) (x ∷ xs) d h = ap (λ (ys : List A). f x ∷ ys) (map_to_suc n xs d (le_of_suc-le-suc h))
-
-  pub map_to_all : (n : ℕ) (xs : List A) → length xs ≤ n → map_to n xs ≡ map f xs
-  map_to_all zero [] h = refl
-  map_to_all zero (x ∷ xs) h = absurd (not-suc-le-zero h)
-  map_to_all (suc n) [] h = refl
-  map_to_all (suc n) (x ∷ xs) h = ap (λ (ys : List A). f x ∷ ys) (map_to_all n xs (le_of_suc-le-suc h))
 
   -- one turn: ys is the list so far, and v the new element at n
   pub map_to_more : (n : ℕ) (xs ys : List A) (d v : A) → n < length xs → ys ≡ map_to n xs → v ≡ f (get_or ys n d) → set ys n v ≡ map_to (n + 1) xs

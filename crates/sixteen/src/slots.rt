@@ -1,8 +1,8 @@
 // The sixteen slots.
-ghost use Rattle.std.specs.Prelude.{◌&&◌, map, ◌≡◌, leb, get_or, set};
+ghost use Rattle.std.specs.Prelude.{◌&&◌, not, map, position, ◌≡◌, get_or, set};
 ghost use Rattle.answer.specs.Lists.{some, count};
 ghost use Rattle.rule.specs.Rule.{by_labels_timer, live_timer, next_timer};
-ghost use Rattle.sixteen.specs.Sixteen.{no_timer, active, same_booking, room_at, is_nowhere, slot_of};
+ghost use Rattle.sixteen.specs.Sixteen.{no_timer, active, same_booking, room_at};
 
 use crate::GoneOn;
 use matching::Booking;
@@ -14,53 +14,37 @@ use rule::{Copy, Timer};
 pub fn no_timer() -> Timer
     ensures { result ≡ no_timer }
 {
-    let b = Booking {
-        pil: 0,
-        cni: 0,
-        length: 0,
-        year: 0,
-        tuner: 0,
-    };
     Timer {
-        booking: b,
+        booking: Booking {
+            pil: 0,
+            cni: 0,
+            length: 0,
+            year: 0,
+            tuner: 0,
+        },
         copy: Copy::Free,
     }
 }
 
-// Past the last slot there is no timer.
+// Past the last slot there is no timer. A function, and `put_timer`, by the laws `timer_at_unique` and `put_timer_unique`.
 pub fn timer_at(timers: [Timer; 16], slot: usize) -> Timer
     ensures { result ≡ get_or timers slot no_timer }
 {
-    if slot < 16 {
-        return timers[slot];
-    }
-    no_timer()
+    answer::at_or(timers, slot, no_timer())
 }
 
 // Past the last slot nothing is put.
 pub fn put_timer(timers: [Timer; 16], slot: usize, t: Timer) -> [Timer; 16]
     ensures { result ≡ set timers slot t }
 {
-    if slot < 16 {
-        let mut out = timers;
-        out[slot] = t;
-        return out;
-    }
-    timers
+    answer::put(timers, slot, t)
 }
 
 // 'Held and not ended.'
 fn active(s: u32, t: Timer) -> bool
     ensures { result ≡ active s t }
 {
-    let c = t.copy;
-    let b = t.booking;
-    let held = is_held(c);
-    if held {
-        let over = ended_at(s, b);
-        return !over;
-    }
-    false
+    is_held(t.copy) && !ended_at(s, t.booking)
 }
 
 // 'Two timers are the same if all three agree.'
@@ -74,43 +58,28 @@ fn same_booking(a: Booking, b: Booking) -> bool
 fn holds(s: u32, b: Booking, t: Timer) -> bool
     ensures { result ≡ (active s t && same_booking b t.booking) }
 {
-    let a = t.booking;
-    let same = same_booking(b, a);
-    if same {
-        return active(s, t);
-    }
-    false
+    same_booking(b, t.booking) && active(s, t)
 }
 
 pub fn any_holds(s: u32, timers: [Timer; 16], b: Booking) -> bool
     ensures { result ≡ some (λ t. active s t && same_booking b t.booking) timers }
 {
-    let mut i: usize = 0;
-    while i < 16 {
-        let t = timers[i];
-        let same = holds(s, b, t);
-        if same {
-            return true;
-        }
-        i += 1;
-    }
-    false
+    timers.iter().any(|t| holds(s, b, *t))
 }
 
-// 'The lowest slot that is free or whose window has ended', and 16 where there is none.
-pub fn room(s: u32, timers: [Timer; 16]) -> usize
-    ensures { (result ≡ slot_of (room_at s timers)) × (leb 16 result ≡ is_nowhere (room_at s timers)) }
+// The same by the library's word for it, `position`, which a chain is proved by.
+fn first_room(s: u32, timers: [Timer; 16]) -> Option<usize>
+    ensures { result ≡ position (λ t. not (active s t)) timers }
 {
-    let mut i: usize = 0;
-    while i < 16 {
-        let t = timers[i];
-        let taken = active(s, t);
-        if !taken {
-            return i;
-        }
-        i += 1;
-    }
-    16
+    timers.iter().position(|t| !active(s, *t))
+}
+
+// 'The lowest slot that is free or whose window has ended.'
+#[tactic(auto, using(places::proofs::Search::by_position))]
+pub fn room(s: u32, timers: [Timer; 16]) -> Option<usize>
+    ensures { result ≡ room_at s timers }
+{
+    first_room(s, timers)
 }
 
 // 'At each moment every timer's copy goes on', and those that are live then are counted on the way. A free slot stays free, so there is
@@ -120,19 +89,13 @@ pub fn all_next(s: u32, places: [Stamped; 16], timers: [Timer; 16]) -> GoneOn
 {
     let mut out = timers;
     let mut live: u32 = 0;
-    let mut i: usize = 0;
-    while i < 16 {
+    for i in 0..16 {
         let t = out[i];
-        let c = t.copy;
-        let held = is_held(c);
-        if held {
+        if is_held(t.copy) {
             let next = next_timer(s, places, t);
+            live += u32::from(is_live(next.copy));
             out[i] = next;
-            let on = next.copy;
-            let counts = is_live(on);
-            live += counts as u32;
         }
-        i += 1;
     }
     GoneOn { live, timers: out }
 }
@@ -141,15 +104,5 @@ pub fn all_next(s: u32, places: [Stamped; 16], timers: [Timer; 16]) -> GoneOn
 pub fn any_by_labels(timers: [Timer; 16]) -> bool
     ensures { result ≡ some by_labels_timer timers }
 {
-    let mut i: usize = 0;
-    while i < 16 {
-        let t = timers[i];
-        let c = t.copy;
-        let busy = is_by_labels(c);
-        if busy {
-            return true;
-        }
-        i += 1;
-    }
-    false
+    timers.iter().any(|t| is_by_labels(t.copy))
 }

@@ -1,10 +1,12 @@
 // Standard input and output for the programs that read a sheet. What cannot be read or written is told on standard error.
 #![tactic(auto)]
 
-ghost use Rattle.std.specs.Prelude.{◌≡◌, ◌↔◌, ◌<◌, ◌≤◌, false, IfErr, IfOk, OnErr, OnOk, IsTrue, length, min, take};
+ghost use Rattle.std.specs.Prelude.{◌≡◌, ◌↔◌, ◌<◌, ◌≤◌, ◌⊎◌, false, None, Some, IfErr, IfOk, IfSome, OnErr, OnOk, IsTrue, length, min, take};
 ghost use Rattle.std.specs.Io.KnownBytes.{Appends, Consumes, IsAtEnd};
 ghost use Rattle.std.specs.IoError.{error_kind};
+ghost use Rattle.held.specs.Held.{Collects};
 
+use held::Collecting;
 use std::io::{Cursor, Error, ErrorKind, Read, Result, Write};
 use std::str;
 
@@ -92,6 +94,34 @@ pub fn read<R: Read, E: Write>(from: &mut R, told: &mut E, piece: &mut [u8], fai
     }
     let got = from.read(piece);
     given(told, got, piece, failed)
+}
+
+// What is collected up to the input's end, and no further than bytes decide something. Nothing where the end was not seen: where a
+// read fails, `failed` is told.
+pub fn collect<R: Read, E: Write, C: Collecting>(
+    from: &mut R,
+    told: &mut E,
+    nothing: C,
+    failed: &[u8],
+) -> Option<C>
+    ensures seen { (c : C) → result ≡ Some c → (C.left c ≡ 0) ⊎ IsAtEnd (R.remaining from.new) }
+    ensures collected { IfSome result (λ c. Collects C.after (R.remaining from.old) (R.remaining from.new) nothing c) }
+    ensures undecided { result ≡ None → (c : C) × Collects C.after (R.remaining from.old) (R.remaining from.new) nothing c × (0 < C.left c) }
+    ensures failed_value { failed.exit.now ≡ failed.entry.now }
+{
+    let mut page = nothing;
+    while !page.is_full() {
+        let mut piece = [0u8; 4096];
+        let got = read(from, told, &mut piece, failed);
+        page = page.fed(&piece[..got.count]);
+        if got.ended {
+            return Some(page);
+        }
+        if got.count == 0 {
+            return None;
+        }
+    }
+    Some(page)
 }
 
 // The first n bytes; where they cannot be written, or there are not so many, `failed` is told.

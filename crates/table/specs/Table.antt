@@ -1,5 +1,5 @@
 -- The table that the contents of a page are entered into (EN 300 231 clause 7.3.1.5; document 02, #108), as the reader keeps it.
-use Rattle.std.specs.Prelude.{ℕ, suc, ◌+◌, ◌%◌, Bool, true, false, cond, ◌||◌, List, [], ◌∷◌, ltb, eqb, set, replicate}
+use Rattle.std.specs.Prelude.{ℕ, suc, ◌+◌, ◌%◌, Bool, true, false, cond, ◌||◌, Option, Some, None, List, [], ◌∷◌, ltb, eqb, set, replicate}
 use Rattle.figures.specs.declared.Offset.TheVariants.{Plus}
 use Rattle.figures.specs.declared.Value.{Value}
 use Rattle.figures.specs.declared.Value.TheVariants as value
@@ -7,19 +7,14 @@ use Rattle.figures.specs.declared.Found.{Found}
 use Rattle.figures.specs.Permitted.{words_of}
 use Rattle.announced.specs.declared.Announcement.{Announcement}
 use Rattle.announced.specs.declared.Stage.TheVariants.{First}
-use Rattle.announced.specs.declared.Told.{Told}
-use Rattle.announced.specs.declared.Told.TheVariants as told
 use Rattle.announced.specs.Times.{no_time, announced, marks_of}
 use Rattle.announced.specs.Taken.{after_title, by_title, stage_from, announced_from, told_of}
 use Rattle.originals.specs.declared.Original.{Original}
-use Rattle.originals.specs.declared.Given.{Given}
-use Rattle.originals.specs.declared.Given.TheVariants as given
 use Rattle.originals.specs.Data.{data_of}
 use Rattle.originals.specs.Taken.{data_start, data_from, originals_from, given_of}
 use Rattle.table.specs.declared.Words.{Words}
 use Rattle.table.specs.declared.Words.TheVariants.{Nothing, Same, Different}
-use Rattle.table.specs.declared.Announcements.{Announcements}
-use Rattle.table.specs.declared.Originals.{Originals}
+use Rattle.table.specs.declared.Entries.{Entries}
 use Rattle.table.specs.declared.Table.{Table}
 
 -- no page has more programmes: a row has one title
@@ -31,15 +26,16 @@ most = 24
 abbrev pub one_more : ℕ → ℕ
 one_more n = cond (ltb n 25) (suc n) n
 
+-- one more, where there is one
+abbrev pub entered : {A : Type 0} → Entries A → Option A → Entries A
+entered a None = a
+entered a (Some x) = record { count = one_more a.count; places = set a.places a.count x }
+
 abbrev pub no_announcement : Announcement
 no_announcement = announced 0 0 no_time no_time
 
-abbrev pub no_announcements : Announcements
+abbrev pub no_announcements : Entries Announcement
 no_announcements = record { count = 0; places = replicate most no_announcement }
-
-abbrev pub with_told : Announcements → Told → Announcements
-with_told a told.Nothing = a
-with_told a (told.Announced x) = record { count = one_more a.count; places = set a.places a.count x }
 
 abbrev pub no_original : Original
 no_original = record {
@@ -53,12 +49,8 @@ no_original = record {
   pty = 0;
 }
 
-abbrev pub no_originals : Originals
+abbrev pub no_originals : Entries Original
 no_originals = record { count = 0; places = replicate most no_original }
-
-abbrev pub with_given : Originals → Given → Originals
-with_given a given.Nothing = a
-with_given a (given.Timed x) = record { count = one_more a.count; places = set a.places a.count x }
 
 -- the words so far, and one more
 abbrev pub word_after : Words → ℕ → Words
@@ -105,9 +97,9 @@ table_start = record {
 unfoldable pub after_format : Table → Found → Table
 after_format s f = record {
   stage = stage_from s.stage (marks_of f.value);
-  announcements = with_told s.announcements (told_of (announced_from s.stage (marks_of f.value)));
+  announcements = entered s.announcements (told_of (announced_from s.stage (marks_of f.value)));
   carried = data_from s.carried (data_of f.value);
-  originals = with_given s.originals (given_of (originals_from s.carried (data_of f.value)));
+  originals = entered s.originals (given_of (originals_from s.carried (data_of f.value)));
   sum = (s.sum + f.sum) % 256;
   words = words_after s.words (words_of f.value);
   wrong = s.wrong || is_wrong f.value;
@@ -118,7 +110,7 @@ after_format s f = record {
 unfoldable pub titled_at : Table → ℕ → ℕ → Table
 titled_at s row column = record {
   stage = after_title s.stage row column;
-  announcements = with_told s.announcements (told_of (by_title s.stage row column));
+  announcements = entered s.announcements (told_of (by_title s.stage row column));
   carried = s.carried;
   originals = s.originals;
   sum = s.sum;

@@ -2,14 +2,14 @@
 // figures and the protection words.
 #![tactic(auto)]
 
-ghost use Rattle.std.specs.Prelude.{true, ◌≡◌, set};
+ghost use Rattle.std.specs.Prelude.{true, ◌≡◌};
 ghost use Rattle.figures.specs.Permitted.{words_of};
-ghost use Rattle.table.specs.Table.{one_more, no_announcement, with_told, no_original, with_given, word_after, words_after, agreed, is_wrong, table_start, after_format, titled_at, with_code};
+ghost use Rattle.table.specs.Table.{one_more, no_announcement, no_original, entered, word_after, words_after, agreed, is_wrong, table_start, after_format, titled_at, with_code};
 ghost use Rattle.table.specs.Laws.{Laws};
 
-use announced::{Announcement, Stage, Time, Told};
+use announced::{Announcement, Stage, Time};
 use figures::{Found, Offset, Value};
-use originals::{Data, Given, Original};
+use originals::{Data, Original};
 
 // The protection words so far: none, all the same, or different ones.
 #[derive(Clone, Copy)]
@@ -21,24 +21,18 @@ pub enum Words {
 
 // The first `count` places, and blanks after them; more than 24 count as 25.
 #[derive(Clone, Copy)]
-pub struct Announcements {
+pub struct Entries<T> {
     pub count: usize,
-    pub places: [Announcement; 24],
-}
-
-#[derive(Clone, Copy)]
-pub struct Originals {
-    pub count: usize,
-    pub places: [Original; 24],
+    pub places: [T; 24],
 }
 
 // What has come of times and titles, and of data; the sum of the figures; whether figures were not permitted, or a code no code.
 #[derive(Clone, Copy)]
 pub struct Table {
     pub stage: Stage,
-    pub announcements: Announcements,
+    pub announcements: Entries<Announcement>,
     pub carried: Data,
-    pub originals: Originals,
+    pub originals: Entries<Original>,
     pub sum: u8,
     pub words: Words,
     pub wrong: bool,
@@ -52,29 +46,6 @@ fn one_more(n: usize) -> usize
         return n + 1;
     }
     n
-}
-
-// Past the last place nothing is put, which no page comes to (law `at_most_24` of `preview`).
-fn put_announcement(places: [Announcement; 24], at: usize, x: Announcement) -> [Announcement; 24]
-    ensures { result ≡ set places at x }
-{
-    if at < 24 {
-        let mut more = places;
-        more[at] = x;
-        return more;
-    }
-    places
-}
-
-fn put_original(places: [Original; 24], at: usize, x: Original) -> [Original; 24]
-    ensures { result ≡ set places at x }
-{
-    if at < 24 {
-        let mut more = places;
-        more[at] = x;
-        return more;
-    }
-    places
 }
 
 fn no_announcement() -> Announcement
@@ -103,34 +74,17 @@ fn no_original() -> Original
     }
 }
 
-fn with_told(a: Announcements, t: Told) -> Announcements
-    ensures { result ≡ with_told a t }
+// 'AT-2 formats are entered in the order of their appearance', and programmes likewise. Past the last place nothing is put, which no page
+// comes to (law `at_most_24` of `preview`).
+fn entered<T: Copy>(all: Entries<T>, more: Option<T>) -> Entries<T>
+    ensures { result ≡ entered all more }
 {
-    match t {
-        Told::Nothing => a,
-        Told::Announced(x) => {
-            let places = a.places;
-            Announcements {
-                count: one_more(a.count),
-                places: put_announcement(places, a.count, x),
-            }
-        }
-    }
-}
-
-// 'AT-2 formats are entered in the order of their appearance.'
-fn with_given(a: Originals, g: Given) -> Originals
-    ensures { result ≡ with_given a g }
-{
-    match g {
-        Given::Nothing => a,
-        Given::Timed(x) => {
-            let places = a.places;
-            Originals {
-                count: one_more(a.count),
-                places: put_original(places, a.count, x),
-            }
-        }
+    match more {
+        Some(x) => Entries {
+            count: one_more(all.count),
+            places: answer::put(all.places, all.count, x),
+        },
+        None => all,
     }
 }
 
@@ -139,13 +93,8 @@ fn word_after(w: Words, n: u8) -> Words
 {
     match w {
         Words::Nothing => Words::Same(n),
-        Words::Same(m) => {
-            if m == n {
-                return Words::Same(m);
-            }
-            Words::Different
-        }
-        Words::Different => Words::Different,
+        Words::Same(m) if m == n => w,
+        _ => Words::Different,
     }
 }
 
@@ -153,34 +102,15 @@ fn words_after(w: Words, v: Value) -> Words
     ensures { result ≡ words_after w (words_of v) }
 {
     match v {
-        Value::Text => w,
-        Value::Wrong => w,
-        Value::Single(_, _) => w,
-        Value::Double(_, _, _, _) => w,
-        Value::Original(_, _) => w,
-        Value::Date(_, _, _) => w,
-        Value::Network(_) => w,
-        Value::Offset(_) => w,
-        Value::Pty(_) => w,
         Value::Word(n) => word_after(w, n),
+        _ => w,
     }
 }
 
 fn is_wrong(v: Value) -> bool
     ensures { result ≡ is_wrong v }
 {
-    match v {
-        Value::Text => false,
-        Value::Wrong => true,
-        Value::Single(_, _) => false,
-        Value::Double(_, _, _, _) => false,
-        Value::Original(_, _) => false,
-        Value::Date(_, _, _) => false,
-        Value::Network(_) => false,
-        Value::Offset(_) => false,
-        Value::Pty(_) => false,
-        Value::Word(_) => false,
-    }
+    matches!(v, Value::Wrong)
 }
 
 impl Words {
@@ -189,9 +119,8 @@ impl Words {
         ensures { result ≡ agreed self sum }
     {
         match self {
-            Words::Nothing => false,
             Words::Same(n) => n == sum,
-            Words::Different => false,
+            _ => false,
         }
     }
 }
@@ -202,12 +131,12 @@ impl Table {
     {
         Table {
             stage: Stage::First,
-            announcements: Announcements {
+            announcements: Entries {
                 count: 0,
                 places: [no_announcement(); 24],
             },
             carried: Data::new(),
-            originals: Originals {
+            originals: Entries {
                 count: 0,
                 places: [no_original(); 24],
             },
@@ -219,24 +148,19 @@ impl Table {
     }
 
     // 'Entering the contents from the formats found into the columns concerned.'
+    #[tactic(auto, unfolding(crate::specs::Table::after_format))]
     pub fn format(self, f: Found) -> Table
         ensures { result ≡ after_format self f }
     {
-        let v = f.value;
-        let stage = self.stage;
-        let carried = self.carried;
-        let announcements = self.announcements;
-        let originals = self.originals;
-        let words = self.words;
         Table {
-            stage: stage.after(v),
-            announcements: with_told(announcements, stage.told(v)),
-            carried: carried.after(v),
-            originals: with_given(originals, carried.given(v)),
-            sum: ((self.sum as u16 + f.sum as u16) % 256) as u8,
-            words: words_after(words, v),
-            wrong: self.wrong | is_wrong(v),
-            high: self.high,
+            stage: self.stage.after(f.value),
+            announcements: entered(self.announcements, self.stage.told(f.value)),
+            carried: self.carried.after(f.value),
+            originals: entered(self.originals, self.carried.given(f.value)),
+            sum: self.sum.wrapping_add(f.sum),
+            words: words_after(self.words, f.value),
+            wrong: self.wrong | is_wrong(f.value),
+            ..self
         }
     }
 
@@ -245,20 +169,10 @@ impl Table {
     pub fn titled(self, row: u8, column: u8) -> Table
         ensures { result ≡ titled_at self row column }
     {
-        let stage = self.stage;
-        let carried = self.carried;
-        let announcements = self.announcements;
-        let originals = self.originals;
-        let words = self.words;
         Table {
-            stage: stage.titled(row, column),
-            announcements: with_told(announcements, stage.entitled(row, column)),
-            carried,
-            originals,
-            sum: self.sum,
-            words,
-            wrong: self.wrong,
-            high: self.high,
+            stage: self.stage.titled(row, column),
+            announcements: entered(self.announcements, self.stage.entitled(row, column)),
+            ..self
         }
     }
 
@@ -267,20 +181,9 @@ impl Table {
     pub fn coded(self, c: u8) -> Table
         ensures { result ≡ with_code self c }
     {
-        let stage = self.stage;
-        let carried = self.carried;
-        let announcements = self.announcements;
-        let originals = self.originals;
-        let words = self.words;
         Table {
-            stage,
-            announcements,
-            carried,
-            originals,
-            sum: self.sum,
-            words,
-            wrong: self.wrong,
             high: self.high | (127 < c),
+            ..self
         }
     }
 }

@@ -5,65 +5,51 @@ ghost use Rattle.items.specs.Pieces.{items_found};
 ghost use Rattle.label.specs.Packet.{reading_answer};
 ghost use Rattle.tally.specs.Pieces.{grown, after_read, after_packet, counted_item, counted_items};
 
+use answer::put;
 use items::Found;
-use label::Reading;
+use label::{Received, Refusal};
 use report::Tuner;
 
-const MOST: u32 = 4294967295;
-
-// A count stops where its bits end: no sheet comes to that.
+// 'Packets read clean, packets read with mended bytes, mended bytes in all.' A count stops where its bits end: no sheet comes to that.
 #[tactic(auto, unfolding(crate::specs::Pieces::grown))]
-fn grown(n: u32, k: u32) -> u32
-    ensures { result ≡ grown n k }
-{
-    if n <= MOST - k {
-        return n + k;
-    }
-    MOST
-}
-
-// 'Packets read clean, packets read with mended bytes, mended bytes in all.'
 fn read_more(h: Tuner, mended: u8) -> Tuner
     ensures { result ≡ after_read mended h }
 {
     if mended == 0 {
         return Tuner {
-            clean: grown(h.clean, 1),
-            mended: h.mended,
-            bytes: h.bytes,
-            refused: h.refused,
+            clean: h.clean.saturating_add(1),
+            ..h
         };
     }
     Tuner {
-        clean: h.clean,
-        mended: grown(h.mended, 1),
-        bytes: grown(h.bytes, mended as u32),
-        refused: h.refused,
+        mended: h.mended.saturating_add(1),
+        bytes: h.bytes.saturating_add(mended as u32),
+        ..h
     }
 }
 
 // 'Packets refused by the reader (1 to 6).'
+#[tactic(auto, unfolding(crate::specs::Pieces::grown))]
 fn refused_more(h: Tuner) -> Tuner
     ensures { result ≡ record { clean = h.clean; mended = h.mended; bytes = h.bytes; refused = grown h.refused 1 } }
 {
     Tuner {
-        clean: h.clean, // it is not read
-        mended: h.mended,
-        bytes: h.bytes,
-        refused: grown(h.refused, 1),
+        refused: h.refused.saturating_add(1),
+        ..h
     }
 }
 
-fn packet_more(h: Tuner, reading: Reading) -> Tuner
+fn packet_more(h: Tuner, reading: Result<Received, Refusal>) -> Tuner
     ensures { result ≡ after_packet (reading_answer reading) h }
 {
     match reading {
-        Reading::Refused(_) => refused_more(h),
-        Reading::Read(r) => read_more(h, r.mended),
+        Ok(r) => read_more(h, r.mended),
+        Err(_) => refused_more(h),
     }
 }
 
 // '47 bytes each: time 4, tuner 1, packet 42.'
+#[tactic(auto, using(crate::proofs::Counting::packet_at))]
 fn counted(tuners: [Tuner; 4], held: [u8; 47]) -> [Tuner; 4]
     ensures { result ≡ counted_item (packet (take 47 held)) tuners }
 {
@@ -71,12 +57,8 @@ fn counted(tuners: [Tuner; 4], held: [u8; 47]) -> [Tuner; 4]
     if 3 < tuner {
         return tuners;
     }
-    let reading = reader::read(&held[5..47]);
-    let h = tuners[tuner];
-    let more = packet_more(h, reading);
-    let mut out = tuners;
-    out[tuner] = more;
-    out
+    let more = packet_more(tuners[tuner], reader::read(&held[5..47]));
+    put(tuners, tuner, more)
 }
 
 #[tactic(auto, unfolding(crate::specs::Pieces::counted_items))]
@@ -84,8 +66,7 @@ pub(crate) fn found_more(tuners: [Tuner; 4], found: Found, held: [u8; 47]) -> [T
     ensures { result ≡ counted_items (items_found found held) tuners }
 {
     match found {
-        Found::Nothing => tuners,
-        Found::Timer => tuners,
+        Found::Nothing | Found::Timer => tuners,
         Found::Packet => counted(tuners, held),
     }
 }

@@ -12,7 +12,6 @@ impl Tally {
     pub fn new() -> Tally
         ensures { result ≡ blank }
     {
-        let split = Split::new();
         let silence = Tuner {
             clean: 0,
             mended: 0,
@@ -20,7 +19,7 @@ impl Tally {
             refused: 0,
         };
         Tally {
-            split,
+            split: Split::new(),
             tuners: [silence; 4],
         }
     }
@@ -33,14 +32,13 @@ impl Tally {
         let mut split = self.split;
         let mut tuners = self.tuners;
         let mut i: usize = 0;
+        // No `for`: an item takes as many bytes as it has.
         while i < piece.len() {
             let taken = split.take(piece, i);
-            let found = taken.found;
-            let next = taken.split;
-            let held = next.held;
-            let more = found_more(tuners, found, held);
+            split = taken.split;
+            // By a name: an array that a call gives is laid in no variable that the call reads.
+            let more = found_more(tuners, taken.found, split.held);
             tuners = more;
-            split = next;
             i = taken.at;
         }
         Tally { split, tuners }
@@ -50,17 +48,14 @@ impl Tally {
     pub fn left_over(self) -> bool
         ensures { result ≡ left_over self.split.stage }
     {
-        let split = self.split;
-        split.left_over()
+        self.split.left_over()
     }
 
     // The input's end, or what is told as ended though its end was not seen, prints the report, where it fits.
+    #[tactic(auto, unfolding(crate::specs::Pieces::reported_by, crate::specs::Pieces::out_after, crate::specs::Pieces::end_told, report::specs::Room::length_in, report::specs::Room::stored_in))]
     pub fn report(self, ended: bool, out: &mut [u8]) -> usize
         ensures { (result ≡ reported_by ended out.old self) × (out.new ≡ out_after ended out.old self) }
     {
-        let split = self.split;
-        let tuners = self.tuners;
-        let whole = split.whole(ended);
-        report::report(tuners, whole, out)
+        report::report(self.tuners, self.split.whole(ended), out)
     }
 }

@@ -3,20 +3,19 @@ use mathlib.Core.Path.{◌≡◌, refl}
 use Rattle.answer.specs.Answer.{Answer, refused, given}
 use Rattle.triplet.specs.Word.{word_of, good, triplet_of, coded_answer, coding_of}
 use Rattle.triplet.specs.Laws.{Laws}
-use Rattle.triplet.specs.declared.Coded.{Coded}
-use Rattle.triplet.specs.declared.Coded.TheVariants.{TooWide, Word}
+use Rattle.std.specs.Prelude.{Option, None, Some}
 use Prim.Native.Nat.{ℕ, ◌%◌}
 use Rattle.answer.proofs.Answers.{equation, numbered}
 use Rattle.triplet.proofs.Words.{equations, only_equations, far, one_near, near_clean, near_mended, two}
 use Rattle.triplet.proofs.Words.{only_clean, only_mended, sent, clean_good}
 
-abbrev coded : Answer ℕ → Coded
-coded (refused n) = TooWide
-coded (given w) = Word w
+abbrev coded : Answer ℕ → Option ℕ
+coded (refused n) = None
+coded (given w) = Some w
 
-coded_back : (r : Coded) → coded (coded_answer r) ≡ r
-coded_back TooWide = refl
-coded_back (Word w) = refl
+coded_back : (r : Option ℕ) → coded (coded_answer r) ≡ r
+coded_back None = refl
+coded_back (Some w) = refl
 
 pub laws : Laws
 laws = record {

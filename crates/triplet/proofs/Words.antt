@@ -1,5 +1,5 @@
 -- What a word carries, by its distance from the good words.
-use Prim.Native.Nat.{ℕ, zero, suc, ◌+◌, ◌/◌, ◌%◌, ◌^◌, ◌≤◌, ◌<◌}
+use Prim.Native.Nat.{ℕ, zero, suc, ◌+◌, ◌%◌, ◌^◌, ◌≤◌, ◌<◌}
 use mathlib.Core.Path.{◌≡◌, refl, sym, ap, ◌∙◌}
 use mathlib.Core.Logic.{◌⊎◌, inl, inr}
 use mathlib.Core.Bool.{Bool, true, false, cond, or-true}
@@ -11,19 +11,12 @@ use Rattle.answer.specs.Lists.{member}
 use Rattle.answer.proofs.Cases.{by_test}
 use Rattle.answer.proofs.Every.{All, listed}
 use Rattle.hamming.proofs.Ones.{apart_same, apart_none}
-use Rattle.triplet.specs.Word.{word_of, good, run, ones_among, odd, all, checked, distance, values, first_at, triplet_of}
+use Rattle.triplet.specs.Word.{good, run, ones_among, odd, all, checked, distance, values, first_at, triplet_of}
 use Rattle.triplet.specs.Checks.{data_of}
 use Rattle.triplet.specs.declared.Triplet.{Triplet}
 use Rattle.triplet.specs.declared.Triplet.TheVariants.{Damaged, Clean, Mended}
 use Rattle.triplet.proofs.Good.{good_small, good_checked, data_small, data_good, checked_good}
 use Rattle.triplet.proofs.Near.{overall, one_beside, four_apart}
-
--- ── three bytes ────────────────────────────────────────────────────────────────────────────────────────────────────
-pub bytes_word : (w : ℕ) → w < 2 ^ 24 → word_of (w % 256) (w / 256 % 256) (w / 65536) ≡ w
-bytes_word w h = omega arith
-
-pub word_small : (a b c : ℕ) → a < 256 → b < 256 → c < 256 → word_of a b c < 2 ^ 24
-word_small a b c p q r = omega arith
 
 -- ── good words ─────────────────────────────────────────────────────────────────────────────────────────────────────
 pub equations : (v : ℕ) → v < 262144 → (good v < 2 ^ 24) × checked (good v)

@@ -1,11 +1,9 @@
 -- The Hamming 24/18 word (document 02, #103). Bit 1 of a word is its lowest, and D n w (as of the data bits of a byte) its bit n.
-use Rattle.std.specs.Prelude.{ℕ, zero, suc, ◌+◌, ◌*◌, ◌/◌, ◌%◌, ◌≡◌, cond, List, [], ◌∷◌, ◌++◌, map, ltb, eqb}
+use Rattle.std.specs.Prelude.{ℕ, zero, suc, ◌+◌, ◌*◌, ◌/◌, ◌%◌, ◌≡◌, cond, List, [], ◌∷◌, ◌++◌, map, ltb, eqb, Option, None, Some}
 use Rattle.answer.specs.Answer.{Answer, refused, given, first_of}
 use Rattle.hamming.specs.Byte.{D, apart}
 use Rattle.triplet.specs.declared.Triplet.{Triplet}
 use Rattle.triplet.specs.declared.Triplet.TheVariants.{Damaged, Clean, Mended}
-use Rattle.triplet.specs.declared.Coded.{Coded}
-use Rattle.triplet.specs.declared.Coded.TheVariants.{TooWide, Word}
 
 -- 'bits 1 to 24 of three bytes, bit 1 the lowest of the first'
 abbrev pub word_of : ℕ → ℕ → ℕ → ℕ
@@ -117,9 +115,9 @@ triplet_of w =
     cond (ltb same 262144) (Clean same) (cond (ltb near 262144) (Mended near) Damaged)
 
 -- the paper's number of a value that is wider than its eighteen bits
-abbrev pub coded_answer : Coded → Answer ℕ
-coded_answer TooWide = refused 19
-coded_answer (Word w) = given w
+abbrev pub coded_answer : Option ℕ → Answer ℕ
+coded_answer None = refused 19
+coded_answer (Some w) = given w
 
 -- what a value is sent as
 unfoldable pub coding_of : ℕ → Answer ℕ

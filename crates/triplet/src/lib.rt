@@ -15,12 +15,6 @@ pub enum Triplet {
     Mended(u32),
 }
 
-#[derive(Clone, Copy)]
-pub enum Coded {
-    TooWide,
-    Word(u32),
-}
-
 // The positions that each parity bit covers, and all twenty-four: position n is bit n of the mask.
 const COVERED_1: u32 = 0x555555;
 
@@ -34,7 +28,8 @@ const COVERED_16: u32 = 0x7F8000;
 
 const ALL: u32 = 0xFFFFFF;
 
-// 1 where the ones under a mask are even in number: a check that fails, and the parity bit that makes them odd.
+// 1 where the ones under a mask are even in number: a check that fails, and the parity bit that makes them odd. As in `hamming`, which has it
+// of bytes: over both it would ask for a trait with `&` and `count_ones`, longer than the two.
 fn even(w: u32, mask: u32) -> u32
     ensures { result ≡ (1 + ones (bit_and w mask)) % 2 }
 {
@@ -45,12 +40,11 @@ fn even(w: u32, mask: u32) -> u32
 fn wrong_bit(w: u32) -> u32
     ensures { result ≡ spelt w }
 {
-    let s1 = even(w, COVERED_1);
-    let s2 = even(w, COVERED_2);
-    let s4 = even(w, COVERED_4);
-    let s8 = even(w, COVERED_8);
-    let s16 = even(w, COVERED_16);
-    s1 + 2 * s2 + 4 * s4 + 8 * s8 + 16 * s16
+    even(w, COVERED_1)
+        + 2 * even(w, COVERED_2)
+        + 4 * even(w, COVERED_4)
+        + 8 * even(w, COVERED_8)
+        + 16 * even(w, COVERED_16)
 }
 
 // D1 is bit 3 of the word, D2 to D4 are bits 5 to 7, D5 to D11 bits 9 to 15, D12 to D18 bits 17 to 23.
@@ -85,26 +79,25 @@ pub fn decode(a: u8, b: u8, c: u8) -> Triplet
     let overall = even(w, ALL);
     if overall == 0 {
         if n == 0 {
-            let v = data_bits(w);
-            return Triplet::Clean(v);
+            return Triplet::Clean(data_bits(w));
         }
         return Triplet::Damaged;
     }
     if 23 < n {
         return Triplet::Damaged;
     }
-    let v = data_bits(w ^ (1 << n) / 2);
-    Triplet::Mended(v)
+    Triplet::Mended(data_bits(w ^ (1 << n) / 2))
 }
 
-pub fn encode(v: u32) -> Coded
+// None where the value is wider than eighteen bits.
+#[tactic(auto, unfolding(crate::specs::Word::coding_of))]
+pub fn encode(v: u32) -> Option<u32>
     ensures { coded_answer result ≡ coding_of v }
 {
     if 262143 < v {
-        return Coded::TooWide;
+        return None;
     }
-    let w = good_word(v);
-    Coded::Word(w)
+    Some(good_word(v))
 }
 
 // The laws of the word, as a promise of the crate.

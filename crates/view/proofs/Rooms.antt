@@ -1,39 +1,26 @@
 -- How long the print of a page is.
 use Prim.Native.Nat.{ℕ, ◌*◌, ◌≤◌}
-use mathlib.Core.Bool.{Bool, true, false, cond}
+use mathlib.Core.Bool.{true}
 use mathlib.Core.List.{List, [], ◌∷◌, ◌++◌}
 use native.Mathlib.Omega.{arith}
 use lib.ListN.{length, length-append}
-use Rattle.answer.specs.Text.{space, line_feed, decimal_in}
-use Rattle.answer.proofs.Texts.{decimal_short}
+use Rattle.answer.specs.Text.{line_feed}
 use Rattle.figures.specs.declared.Offset.{Offset}
 use Rattle.figures.specs.declared.Offset.TheVariants.{Plus, Minus}
 use Rattle.announced.specs.declared.Time.{Time}
 use Rattle.preview.specs.declared.Programme.{Programme}
-use Rattle.view.specs.View.{colon, column, pair, time_column, network_column, offset_column, record_of}
+use Rattle.view.specs.View.{column, pair, time_column, network_column, offset_column, record_of}
 use Rattle.view.specs.View.{beginning, middle, ending, programme_line, programme_lines, count_line, refusal_line}
 use Rattle.view.specs.Reported.{longest_line}
+use Rattle.text.proofs.Rooms.{column_short, pair_short, hour_minute_short, quarters_short, line_short}
 
 -- ── the columns ────────────────────────────────────────────────────────────────────────────────────────────────────
-pub column_short : (n : ℕ) → length (column n) ≤ 4
-column_short n = omega (arith, decimal_short 3 n)
-
-pub pair_short : (a b : ℕ) → length (pair a b) ≤ 8
-pair_short a b = omega (arith, column_short a, column_short b, length-append (column a) (column b))
-
-pub sign_short : (shown : Bool) (sign : ℕ) → length (space ∷ cond shown (sign ∷ []) []) ≤ 2
-sign_short true sign = omega arith
-sign_short false sign = omega arith
-
 pub time_short : (t : Time) → length (time_column t) ≤ 8
-time_short t =
-    let h = t.hour in
-    let m = t.minute in
-    omega (arith, decimal_short 3 h, decimal_short 3 m, length-append (decimal_in 3 h) (colon ∷ decimal_in 3 m))
+time_short t = omega (arith, hour_minute_short t.hour t.minute)
 
 pub offset_short : (o : Offset) → length (offset_column o) ≤ 5
-offset_short (Plus q) = omega (arith, decimal_short 3 q)
-offset_short (Minus q) = omega (arith, decimal_short 3 q)
+offset_short (Plus q) = omega (arith, column_short 3 q)
+offset_short (Minus q) = quarters_short q true
 
 -- ── the lines ──────────────────────────────────────────────────────────────────────────────────────────────────────
 pub beginning_short : (q : Programme) → length (beginning q) ≤ 25
@@ -57,7 +44,7 @@ middle_short q =
     let a = pair q.day q.month in
     let b = column q.year in
     let c = network_column q.network in
-    omega (arith, pair_short q.day q.month, column_short q.year, length-append a (b ++ c), length-append b c)
+    omega (arith, pair_short q.day q.month, column_short 3 q.year, length-append a (b ++ c), length-append b c)
 
 pub ending_short : (q : Programme) → length (ending q) ≤ 21
 unfolding ending
@@ -74,9 +61,9 @@ ending_short q =
       length-append b c,
     )
 
-pub line_short : (q : Programme) → length (programme_line q) ≤ longest_line
+pub programme_short : (q : Programme) → length (programme_line q) ≤ longest_line
 unfolding programme_line
-line_short q =
+programme_short q =
     omega (
       arith,
       beginning_short q,
@@ -90,12 +77,12 @@ line_short q =
 pub lines_short : (qs : List Programme) → length (programme_lines qs) ≤ longest_line * length qs
 unfolding programme_lines
 lines_short [] = omega arith
-lines_short (q ∷ qs) = omega (arith, line_short q, lines_short qs, length-append (programme_line q) (programme_lines qs))
+lines_short (q ∷ qs) = omega (arith, programme_short q, lines_short qs, length-append (programme_line q) (programme_lines qs))
 
 pub count_short : (n : ℕ) → length (count_line n) ≤ 6
 unfolding count_line
-count_short n = omega (arith, column_short n, length-append (column n) (line_feed ∷ []))
+count_short n = line_short 90 n
 
 pub refusal_short : (n : ℕ) → length (refusal_line n) ≤ 6
 unfolding refusal_line
-refusal_short n = omega (arith, column_short n, length-append (column n) (line_feed ∷ []))
+refusal_short n = line_short 82 n

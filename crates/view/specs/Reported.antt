@@ -1,7 +1,7 @@
 -- What is printed of a page as it is stored.
-use Rattle.std.specs.Prelude.{ℕ, ◌+◌, ◌*◌, cond, ◌≡◌, List, ◌++◌, leb, eqb, length, take}
+use Rattle.std.specs.Prelude.{ℕ, ◌+◌, ◌*◌, cond, ◌≡◌, List, ◌++◌, leb, length, take}
 use Rattle.std.proofs.lemmas.List.Edits.{sets}
-use Rattle.answer.specs.Answer.{Answer}
+use Rattle.answer.specs.Answer.{Answer, refused, given}
 use Rattle.preview.specs.declared.Page.{Page}
 use Rattle.preview.specs.declared.Programme.{Programme}
 use Rattle.preview.specs.Page.{Answers}
@@ -34,6 +34,7 @@ abbrev pub ReportedAs : List ℕ → Collected → ℕ → List ℕ → Type 0
 ReportedAs out c r end =
     (a : Answer (List Programme)) × Answers (held c) a × (r ≡ reported_by out (viewed a)) × (end ≡ out_after out (viewed a))
 
--- a page as the reader gives it: its number or 0, and its programmes
-unfoldable pub read_lines : ℕ → Page → List ℕ
-read_lines n page = cond (eqb n 0) (programme_lines (take page.count page.programmes) ++ count_line page.count) (refusal_line n)
+-- a page as the reader gives it: the number of its refusal, or its programmes
+unfoldable pub read_lines : Answer Page → List ℕ
+read_lines (refused n) = refusal_line n
+read_lines (given page) = programme_lines (take page.count page.programmes) ++ count_line page.count

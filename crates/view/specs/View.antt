@@ -2,6 +2,7 @@
 use Rattle.std.specs.Prelude.{ℕ, ◌+◌, ◌/◌, ◌%◌, cond, List, [], ◌∷◌, ◌++◌, ltb, length}
 use Rattle.answer.specs.Answer.{Answer, refused, given}
 use Rattle.answer.specs.Text.{space, line_feed, decimal_in}
+use Rattle.text.specs.Columns as columns
 use Rattle.figures.specs.declared.Offset.{Offset}
 use Rattle.figures.specs.declared.Offset.TheVariants.{Plus, Minus}
 use Rattle.figures.specs.Permitted.{is_not_recorded}
@@ -11,22 +12,22 @@ use Rattle.preview.specs.Taken.{answer_of}
 
 -- ── the signs ──────────────────────────────────────────────────────────────────────────────────────────────────────
 abbrev pub minus : ℕ
-minus = 45
+minus = columns.minus
 
 abbrev pub colon : ℕ
-colon = 58
+colon = columns.colon
 
 -- ── the columns ────────────────────────────────────────────────────────────────────────────────────────────────────
 -- 'in decimal without leading zeros'; three digits hold each of the numbers: they are bytes
 abbrev pub column : ℕ → List ℕ
-column n = space ∷ decimal_in 3 n
+column n = columns.column n
 
 abbrev pub pair : ℕ → ℕ → List ℕ
-pair a b = column a ++ column b
+pair a b = columns.pair a b
 
 -- 'times as `h:m`'
 abbrev pub hour_minute : ℕ → ℕ → List ℕ
-hour_minute h m = decimal_in 3 h ++ (colon ∷ decimal_in 3 m)
+hour_minute h m = columns.hour_minute h m
 
 abbrev pub time_column : Time → List ℕ
 time_column t = space ∷ hour_minute t.hour t.minute

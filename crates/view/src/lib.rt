@@ -13,15 +13,14 @@ use collected::Collected;
 // No print of a page is longer.
 const LONGEST: usize = 1542;
 
-// The input's end prints what the page is answered with, where it fits.
+// The input's end prints what the page is answered with, where it fits. 0 where it does not, and no `Option`, as in `report`.
 pub fn report(collected: Collected, out: &mut [u8]) -> usize
     ensures { ReportedAs out.old collected result out.new }
 {
     if out.len() < LONGEST {
         return 0;
     }
-    let reading = collected.read();
-    page::put_reading(out, reading)
+    page::print(out, collected.read())
 }
 
 // The laws of what is printed, as a promise of the crate.

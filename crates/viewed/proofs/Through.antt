@@ -2,16 +2,18 @@
 use Prim.Native.Nat.{ℕ, ◌≤◌}
 use mathlib.Core.Path.{◌≡◌, refl, sym, ap, ◌∙◌}
 use mathlib.Core.Bool.{not, true, false}
-use mathlib.Core.List.{List, [], ◌∷◌}
+use mathlib.Core.List.{List, ◌∷◌}
 use native.Mathlib.Omega.{arith}
 use borrow.Author.Tests.{eq-eqb, ne_eqb}
 use lib.Dec.{eqb}
 use lib.ListN.{length}
+use Rattle.std.proofs.Common.{Result, Ok}
 use Rattle.answer.specs.Answer.{Answer, refused, given, number, after, and_then}
 use Rattle.preview.specs.declared.Programme.{Programme}
 use Rattle.preview.specs.declared.Page.{Page}
-use Rattle.preview.specs.Page.{Answers, wrong_length, no_reading, wrong_word}
-use Rattle.preview.specs.Taken.{answer_of, page_of}
+use Rattle.preview.specs.declared.Refusal.{Refusal}
+use Rattle.preview.specs.Page.{Answers}
+use Rattle.preview.specs.Taken.{answer_of, page_of, reading_answer, paged, ReadAs}
 use Rattle.preview.proofs.Readings.{answered}
 use Rattle.preview.proofs.Most.{at_most_24}
 use Rattle.viewed.specs.Viewed.{wrong_room, bytes_of, page_bytes, page_into, ReadInto}
@@ -37,31 +39,31 @@ read_stopped p out h =
     let t = as_both out (stopped (answer_of p) out h) in
     (answer_of p, answered p, t.0, t.1)
 
-refused_on : (was : List ℕ) (a : Answer (List Programme)) {n : ℕ} → n ≡ number a → (n ≡ 0 → ⊥) →
-    (n ≡ number (in_bytes a)) × (was ≡ after was (in_bytes a))
-refused_on was (refused m) e h = (e, refl)
-refused_on was (given qs) e h = absurd (h e)
+-- a page as the reader gives it, in bytes
+abbrev pub told_bytes : Answer Page → Answer (List ℕ)
+told_bytes (refused n) = refused n
+told_bytes (given page) = given (page.count ∷ bytes_of page.programmes)
 
-pub read_refused : (p out : List ℕ) {n : ℕ} (a : Answer (List Programme)) → Answers p a → length out ≡ 385 → n ≡ number a → (n ≡ 0 → ⊥) → ReadInto p out n out
-read_refused p out a v h e k =
-    let t = as_both out (through a out h) in
-    let r = refused_on out a e k in
-    (a, v, r.0 ∙ t.0, r.1 ∙ t.1)
-
--- no refusal has the number 0
-read_given : (p : List ℕ) (a : Answer (List Programme)) → Answers p a → number a ≡ 0 → (a ≡ given (after [] a)) × (length (after [] a) ≤ 24)
-read_given p (refused n) (wrong_length h) e = absurd (omega arith)
-read_given p (refused n) (no_reading l h) e = absurd (omega arith)
-read_given p (refused n) (wrong_word r l w h) e = absurd (omega arith)
-read_given p (given qs) v e = (refl, at_most_24 p qs v)
-
-pub read_few : (p : List ℕ) {page : Page} (a : Answer (List Programme)) → Answers p a → number a ≡ 0 → page ≡ page_of (after [] a) → page.count ≤ 24
-unfolding page_of
-read_few p a v e k = rw k (read_given p a v e).1
-
-pub read_filled : (p out : List ℕ) {page : Page} {left : List ℕ} (a : Answer (List Programme)) → Answers p a → length out ≡ 385 → number a ≡ 0 →
-    page ≡ page_of (after [] a) → left ≡ page.count ∷ bytes_of page.programmes → ReadInto p out 0 left
+same_bytes : (a : Answer (List Programme)) → told_bytes (paged a) ≡ in_bytes a
 unfolding page_of page_bytes
-read_filled p out a v h e k f =
-    let t = as_both out (sym (ap in_bytes (read_given p a v e).0) ∙ through a out h) in
-    (a, v, t.0, f ∙ rw k t.1)
+same_bytes (refused n) = refl
+same_bytes (given qs) = refl
+
+pub read_through : (p out : List ℕ) (r : Result Page Refusal) → ReadAs p r → length out ≡ 385 → {n : ℕ} {left : List ℕ} →
+    n ≡ number (told_bytes (reading_answer r)) → left ≡ after out (told_bytes (reading_answer r)) → ReadInto p out n left
+read_through p out r (a, v, e) h f g =
+    let t = as_both out (ap told_bytes e ∙ same_bytes a ∙ through a out h) in
+    (a, v, f ∙ t.0, g ∙ t.1)
+
+-- a page has at most 24 programmes
+abbrev count_in : Answer Page → ℕ
+count_in (refused n) = 0
+count_in (given page) = page.count
+
+few : (p : List ℕ) (a : Answer (List Programme)) → Answers p a → count_in (paged a) ≤ 24
+unfolding page_of
+few p (refused n) v = omega arith
+few p (given qs) v = at_most_24 p qs v
+
+pub read_few : (p : List ℕ) {r : Result Page Refusal} {page : Page} → ReadAs p r → r ≡ Ok page → page.count ≤ 24
+read_few p (a, v, e) k = omega (arith, few p a v, ap count_in (sym (ap reading_answer k) ∙ e))

@@ -17,12 +17,8 @@ fn fill(count: usize, programmes: [Programme; 24], out: &mut [u8])
     ensures { out.new ≡ count ∷ bytes_of programmes }
 {
     out[0] = count as u8;
-    let mut i: usize = 0;
-    while i < 24 {
-        let q = programmes[i];
-        let bytes = programme::bytes_of(q);
-        programme::put(out, 1 + 16 * i, bytes);
-        i += 1;
+    for (i, q) in programmes.iter().enumerate() {
+        programme::put(out, 1 + 16 * i, programme::bytes_of(*q));
     }
 }
 
@@ -34,17 +30,13 @@ pub fn read_into(page: &[u8], out: &mut [u8]) -> u8
     if out.len() != 385 {
         return WRONG_ROOM;
     }
-    let r = preview::read(page);
-    let verdict = r.verdict;
-    let n = verdict.number();
-    if n != 0 {
-        return n;
+    match preview::read(page) {
+        Err(refusal) => refusal.number(),
+        Ok(got) => {
+            fill(got.count, got.programmes, out);
+            0
+        }
     }
-    let got = r.page;
-    let count = got.count;
-    let programmes = got.programmes;
-    fill(count, programmes, out);
-    0
 }
 
 // The laws of this call, as a promise of the crate.

@@ -56,9 +56,5 @@ pub(crate) fn put(out: &mut [u8], at: usize, bytes: [u8; 16])
     requires { at + 16 ≤ length out.old }
     ensures { out.new ≡ sets out.old at bytes }
 {
-    let mut j: usize = 0;
-    while j < 16 {
-        out[at + j] = bytes[j];
-        j += 1;
-    }
+    out[at..at + 16].copy_from_slice(&bytes);
 }

@@ -1,22 +1,22 @@
 -- The law of the writer: what is written back from its number.
 use Prim.Native.Nat.{ℕ}
-use mathlib.Core.Path.{◌≡◌, refl}
+use Rattle.std.proofs.Common.{◌≡◌, refl, Result, Ok, Err}
 use mathlib.Core.Bool.{cond}
 use lib.Dec.{eqb}
 use Rattle.answer.specs.Answer.{number, after}
 use Rattle.answer.proofs.Answers.{equation, numbered, paired}
-use Rattle.label.specs.declared.Written.{Written}
-use Rattle.label.specs.declared.Written.TheVariants.{WrongLength, TooWide, Done}
+use Rattle.label.specs.declared.WriteRefusal.{WriteRefusal}
+use Rattle.label.specs.declared.WriteRefusal.TheVariants.{WrongLength, TooWide}
 use Rattle.label.specs.Packet.{written_number, writing_of}
 use Rattle.writer.specs.Laws.{Laws}
 
-abbrev outcome : ℕ → Written
-outcome n = cond (eqb n 1) WrongLength (cond (eqb n 16) TooWide Done)
+abbrev outcome : ℕ → Result (Unit {0}) WriteRefusal
+outcome n = cond (eqb n 1) (Err WrongLength) (cond (eqb n 16) (Err TooWide) (Ok tt))
 
-outcome_back : (w : Written) → outcome (written_number w) ≡ w
-outcome_back WrongLength = refl
-outcome_back TooWide = refl
-outcome_back Done = refl
+outcome_back : (w : Result (Unit {0}) WriteRefusal) → outcome (written_number w) ≡ w
+outcome_back (Err WrongLength) = refl
+outcome_back (Err TooWide) = refl
+outcome_back (Ok done) = refl
 
 pub laws : Laws
 laws = record {

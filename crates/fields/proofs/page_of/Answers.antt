@@ -9,7 +9,7 @@ loop-i-init c = taken_none _ _ (search rules) refl
 
 pub loop-i-preserved : goal.loop-i-preserved
 loop-i-preserved c =
-    taken_more _ _ c.loop-i.invariant (search rules) c.programme_at-q.ensures
+    taken_more _ _ c.loop-i.invariant (search rules) c.programme_at.ensures
 
 pub returns : goal.returns
 returns c =

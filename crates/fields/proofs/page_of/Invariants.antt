@@ -1,10 +1,6 @@
 -- `page_of` takes the programmes one after the other; what it keeps is `Taken`.
-use Prim.Native.Nat.{◌-◌}
 use Rattle.fields.proofs.Taken.{Taken}
 use Rattle.fields.proofs.page_of.Given as goal
 
 abbrev pub invariant-loop-i : goal.invariant-loop-i
-invariant-loop-i l = Taken l.f l.programmes l.i
-
-abbrev pub decreases-loop-i : goal.decreases-loop-i
-decreases-loop-i l = 103 - l.i
+invariant-loop-i l = Taken l.f l.q-items l.i

@@ -31,7 +31,7 @@ pub returns-then-failing-eq0 : goal.returns-then-failing-eq0
 returns-then-failing-eq0 c =
     let n : failing (byte (goal.at.returns-then-failing-eq0 c).After-even-overall) ≡ 0 = sym (three (goal.at.returns-then-failing-eq0 c).After-even-overall) ∙ c.if-failing-eq0.true in
     let o : fails 0xFF (byte (goal.at.returns-then-failing-eq0 c).After-even-overall) ≡ 0 = sym (overall (goal.at.returns-then-failing-eq0 c).After-even-overall) ∙ c.if-overall-eq0.true in
-    ap Clean c.data_bits-v.ensures ∙ clean_told (byte (goal.at.returns-then-failing-eq0 c).After-even-overall) (search rules) n o
+    ap Clean c.data_bits.ensures ∙ clean_told (byte (goal.at.returns-then-failing-eq0 c).After-even-overall) (search rules) n o
 
 pub returns-then-overall-eq0 : goal.returns-then-overall-eq0
 returns-then-overall-eq0 c =
@@ -44,5 +44,5 @@ returns c =
     let o : fails 0xFF (byte (goal.at.returns c).After-even-overall) ≡ 1 = not_0 _ (overall (goal.at.returns c).After-even-overall) c.if-overall-eq0.false in
     let w = c.wrong_bit-wrong in
     let t : Tells w.result (failing (byte (goal.at.returns c).After-even-overall)) = rw (three (goal.at.returns c).After-even-overall) at w.ensures in
-    let v : c.data_bits-v-2.result ≡ own (bit_xor (byte (goal.at.returns c).After-even-overall) w.result) = c.data_bits-v-2.ensures in
+    let v : c.data_bits-2.result ≡ own (bit_xor (byte (goal.at.returns c).After-even-overall) w.result) = c.data_bits-2.ensures in
     ap Mended v ∙ mended_told (byte (goal.at.returns c).After-even-overall) (search rules) w.result (search rules) t o

@@ -37,6 +37,6 @@ pub returns-in-6 : goal.returns-in-6
 unfolding ones ones_in
 returns-in-6 c = told 0x08 6 c.in-6.is (refl, refl, refl, refl)
 
-pub returns-in-7-to-255 : goal.returns-in-7-to-255
+pub returns-in_default : goal.returns-in_default
 unfolding ones ones_in
-returns-in-7-to-255 c = told 0x02 7 (omega (arith, c.in-7-to-255, c.requires)) (refl, refl, refl, refl)
+returns-in_default c = told 0x02 7 (omega (arith, c.in_default, c.requires)) (refl, refl, refl, refl)

@@ -7,7 +7,6 @@ use mathlib.Core.List.{List}
 use native.Mathlib.Omega.{arith}
 use lib.ListN.{length, get_or, length-set}
 use lib.Seq.{sets}
-use borrow.Author.Rules.{rules}
 use Rattle.answer.specs.Answer.{given}
 use Rattle.label.proofs.Rows.{Passed, that_length, other_length}
 use Rattle.programmes.specs.declared.Programme.{Programme}
@@ -45,21 +44,21 @@ returns-then-magazine-outside c =
 
 pub loop-i-init : goal.loop-i-init
 unfolding bytes_to
-loop-i-init c = (search rules, refl, λ gs h. refl)
+loop-i-init c = (refl, λ gs h. refl)
 
-pub overflow_mul-packets : goal.overflow_mul-packets
-overflow_mul-packets c = let f = fit_by c.args.magazine c.any_outside-outside.result (c.words_of-words.result.count / 13 + 1) c.if-magazine-outside.false in record { fits = omega (arith, f.2) }
+pub overflow_mul-i-end : goal.overflow_mul-i-end
+overflow_mul-i-end c = let f = fit_by c.args.magazine c.any_outside-outside.result (c.words_of-words.result.count / 13 + 1) c.if-magazine-outside.false in record { fits = omega (arith, f.2) }
 
 pub triplet_number-at-requires : goal.triplet_number-at-requires
 triplet_number-at-requires c = let f = fit_by c.args.magazine c.any_outside-outside.result (c.words_of-words.result.count / 13 + 1) c.if-magazine-outside.false in (omega (arith, f.2), omega arith)
 
-pub offset_bounds-bits-at : goal.offset_bounds-bits-at
-offset_bounds-bits-at c =
+pub offset_bounds-words-at : goal.offset_bounds-words-at
+offset_bounds-words-at c =
     let f = fit_by c.args.magazine c.any_outside-outside.result (c.words_of-words.result.count / 13 + 1) c.if-magazine-outside.false in
     record { fits = omega (arith, f.2, c.triplet_number-at.ensures) }
 
-pub bounds-bits-at : goal.bounds-bits-at
-bounds-bits-at c = let f = fit_by c.args.magazine c.any_outside-outside.result (c.words_of-words.result.count / 13 + 1) c.if-magazine-outside.false in omega (arith, f.2, c.triplet_number-at.ensures)
+pub bounds-words-at : goal.bounds-words-at
+bounds-words-at c = let f = fit_by c.args.magazine c.any_outside-outside.result (c.words_of-words.result.count / 13 + 1) c.if-magazine-outside.false in omega (arith, f.2, c.triplet_number-at.ensures)
 
 pub byte_in-requires : goal.byte_in-requires
 byte_in-requires c =
@@ -75,9 +74,6 @@ byte_in-requires c =
 pub bounds-buf-i : goal.bounds-buf-i
 bounds-buf-i c = let f = fit_by c.args.magazine c.any_outside-outside.result (c.words_of-words.result.count / 13 + 1) c.if-magazine-outside.false in omega (arith, f.2)
 
-pub overflow_add-i : goal.overflow_add-i
-overflow_add-i c = let f = fit_by c.args.magazine c.any_outside-outside.result (c.words_of-words.result.count / 13 + 1) c.if-magazine-outside.false in record { fits = omega (arith, f.2) }
-
 pub loop-i-preserved : goal.loop-i-preserved
 loop-i-preserved c =
     let i = c.loop-i.i in
@@ -85,9 +81,8 @@ loop-i-preserved c =
     let f = fit_by c.args.magazine c.any_outside-outside.result (c.words_of-words.result.count / 13 + 1) c.if-magazine-outside.false in
     let n = c.triplet_number-at.result in
     let l : n < room = omega (arith, f.2, c.triplet_number-at.ensures) in (
-      search rules,
-      length-set c.loop-i.buf i c.byte_in.result ∙ inv.1,
-      λ gs h. bytes_more _ gs i _ (inv.2 gs h) (c.byte_in.ensures gs (ap (bits_at gs) (sym c.triplet_number-at.ensures) ∙ sym (h n l))),
+      length-set c.loop-i.buf i c.byte_in.result ∙ inv.0,
+      λ gs h. bytes_more _ gs i _ (inv.1 gs h) (c.byte_in.ensures gs (ap (bits_at gs) (sym c.triplet_number-at.ensures) ∙ sym (h n l))),
     )
 
 pub overflow_cast-result : goal.overflow_cast-result
@@ -105,4 +100,4 @@ returns c =
     let ok = acceptance m qs p (passed_1 m qs p c.if-buf-ne672.false, none) in
     let packets : c.words_of-words.result.count / 13 + 1 ≡ packets_for gs = ap (λ (n : ℕ). n / 13 + 1) (count_is qs words) in
     let end : loop.i ≡ 42 * packets_for gs = omega (arith, packets) in
-    (ap given packets ∙ ok.0, loop.invariant.2 gs (bits_are qs words) ∙ ap (λ (n : ℕ). sets p 0 (bytes_to m gs n)) end ∙ ok.1)
+    (ap given packets ∙ ok.0, loop.invariant.1 gs (bits_are qs words) ∙ ap (λ (n : ℕ). sets p 0 (bytes_to m gs n)) end ∙ ok.1)

@@ -8,16 +8,16 @@ use Rattle.probe.proofs.probe_read.Goals as goal
 pub returns-then-out-ne14-clause-value : goal.returns-then-out-ne14-clause-value
 returns-then-out-ne14-clause-value c = let a = c.args in as_both a.out.now (read_stopped a.bytes.now a.out.now c.if-out-ne14.true)
 
-pub returns-in-Refused-clause-value : goal.returns-in-Refused-clause-value
-returns-in-Refused-clause-value c =
+pub returns-in-Err-clause-value : goal.returns-in-Err-clause-value
+returns-in-Err-clause-value c =
     let a = c.args in
-    let e = sym (ap reading_answer c.in-Refused.is) ∙ c.read-r.ensures.result_value in
+    let e = sym (ap reading_answer c.in-Err.is) ∙ c.read.ensures.result_value in
     let t = as_both a.out.now (read_through a.bytes.now a.out.now _ c.if-out-ne14.false e) in
     (c.number.ensures ∙ t.0, t.1)
 
-pub returns-in-Read-clause-value : goal.returns-in-Read-clause-value
-returns-in-Read-clause-value c =
+pub returns-in-Ok-clause-value : goal.returns-in-Ok-clause-value
+returns-in-Ok-clause-value c =
     let a = c.args in
-    let e = sym (ap reading_answer c.in-Read.is) ∙ c.read-r.ensures.result_value in
+    let e = sym (ap reading_answer c.in-Ok.is) ∙ c.read.ensures.result_value in
     let t = as_both a.out.now (read_through a.bytes.now a.out.now _ c.if-out-ne14.false e) in
     (t.0, c.fill.ensures ∙ t.1)

@@ -4,8 +4,8 @@ use Rattle.triplet.specs.Word.{coded_answer}
 use Rattle.fields.specs.Fields.{plain}
 use Rattle.probe.proofs.probe_triplet_word.Goals as goal
 
-pub returns-in-TooWide : goal.returns-in-TooWide
-returns-in-TooWide c = ap (plain 16777216) (sym (ap coded_answer c.in-TooWide.is) ∙ c.encode-c.ensures)
+pub returns-in-None : goal.returns-in-None
+returns-in-None c = ap (plain 16777216) (sym (ap coded_answer c.in-None.is) ∙ c.encode.ensures)
 
-pub returns-in-Word : goal.returns-in-Word
-returns-in-Word c = ap (plain 16777216) (sym (ap coded_answer c.in-Word.is) ∙ c.encode-c.ensures)
+pub returns-in-Some : goal.returns-in-Some
+returns-in-Some c = ap (plain 16777216) (sym (ap coded_answer c.in-Some.is) ∙ c.encode.ensures)

@@ -10,5 +10,5 @@ returns-then-fields-ne13-clause-value c = let a = c.args in as_both a.buf.now (w
 pub returns-clause-value : goal.returns-clause-value
 returns-clause-value c =
     let a = c.args in
-    let w = c.write-w.ensures in
-    written a.fields.now a.buf.now c.if-fields-ne13.false c.label_of-l.ensures (c.number.ensures ∙ w.0) w.1
+    let w = c.write.ensures in
+    written a.fields.now a.buf.now c.if-fields-ne13.false c.label_of.ensures (c.written_number.ensures ∙ w.0) w.1

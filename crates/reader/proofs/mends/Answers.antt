@@ -1,24 +1,26 @@
 -- `mends` tells a mended byte from the others, which is a byte at distance 1.
-use Prim.Native.Nat.{ℕ}
-use mathlib.Core.Path.{◌≡◌, sym, ap, ◌∙◌}
-use mathlib.Core.Bool.{Bool, cond}
-use lib.Dec.{eqb}
+use Rattle.std.proofs.Common.{cond, ◌≡◌, ℕ, Bool, true, false, eqb, refl, sym, ap, ◌∙◌}
 use Rattle.hamming.specs.Byte.{away, nibble_of}
 use Rattle.hamming.specs.declared.Nibble.{Nibble}
+use Rattle.hamming.specs.declared.Nibble.TheVariants.{Damaged, Clean, Mended}
 use Rattle.hamming.proofs.Nearest.{is_mended, mended_away}
 use Rattle.reader.proofs.mends.Goals as goal
+use Rattle.reader.proofs.mends.Goals.{in-Mended, in_default}
 
 abbrev bit : Bool → ℕ
 bit t = cond t 1 0
 
-told : {n m : Nibble} → n ≡ m → (b : ℕ) → n ≡ nibble_of b → bit (is_mended m) ≡ bit (eqb (away b) 1)
-told e b d = ap bit (ap is_mended (sym e ∙ d) ∙ mended_away b)
+told : {n : Nibble} (t : Bool) {r : ℕ} → r ≡ bit t → t ≡ is_mended n → (b : ℕ) → n ≡ nibble_of b → r ≡ bit (eqb (away b) 1)
+told t f e b d = f ∙ ap bit (e ∙ ap is_mended d ∙ mended_away b)
 
-pub returns-in-Damaged : goal.returns-in-Damaged
-returns-in-Damaged c = told c.in-Damaged.is
+other : (n : Nibble) → ((v : ℕ) → n ≡ Mended v → ⊥) → false ≡ is_mended n
+other Damaged h = refl
+other (Clean v) h = refl
+other (Mended v) h = absurd (h v refl)
 
-pub returns-in-Clean : goal.returns-in-Clean
-returns-in-Clean c = told c.in-Clean.is
-
-pub returns-in-Mended : goal.returns-in-Mended
-returns-in-Mended c = told c.in-Mended.is
+pub returns : goal.returns
+returns c =
+    elim c.match-matches.branch [
+      | in-Mended w ↦ told true (rw w.matches-is at c.from.ensures) (sym (ap is_mended w.in-Mended.is))
+      | in_default w ↦ told false (rw w.matches-is at c.from.ensures) (other c.args.n w.in_default.not-Mended)
+    ]

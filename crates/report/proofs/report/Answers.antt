@@ -1,15 +1,17 @@
--- `report`: the whole of it where there is room, and else nothing changes.
-use borrow.Author.Tests.{le-leb, lt-leb}
-use mathlib.Core.Path.{refl, ◌∙◌}
-use native.Mathlib.Nat.{zero-add}
-use Rattle.report.specs.Room.{length_in, stored_in}
+-- A report that finds room is stored whole.
+use Rattle.std.proofs.Common.{rules, ℕ, ◌≤◌, length, get_or}
+use native.Mathlib.Omega.{arith}
+use Rattle.text.proofs.Printing.{stored}
+use Rattle.report.specs.declared.Tuner.{Tuner}
+use Rattle.report.specs.Report.{silence, report}
+use Rattle.report.specs.Room.{longest, length_in, stored_in}
+use Rattle.report.proofs.Rooms.{report_short}
 use Rattle.report.proofs.report.Goals as goal
-
-pub returns-then-out-lt-LONGEST : goal.returns-then-out-lt-LONGEST
-unfolding length_in stored_in
-returns-then-out-lt-LONGEST c = rw (lt-leb _ _ c.if-out-lt-LONGEST.true) (refl, refl)
 
 pub returns : goal.returns
 unfolding length_in stored_in
 returns c =
-    rw (le-leb _ _ c.if-out-lt-LONGEST.false) (c.put_report.ensures.0 ∙ zero-add _, c.put_report.ensures.1)
+    let f : ℕ → Tuner = λ k. get_or c.args.tuners k silence in
+    let room : longest ≤ length c.args.out.now = search rules in
+    let whole = stored _ c.put_report.new.out (report f c.args.whole) (omega (arith, room, report_short f c.args.whole)) c.put_report.ensures.1 in
+    search (rules, whole)

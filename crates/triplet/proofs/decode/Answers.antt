@@ -23,7 +23,7 @@ pub returns-then-n-eq0 : goal.returns-then-n-eq0
 returns-then-n-eq0 c =
     let o : wrong all (word (goal.at.returns-then-n-eq0 c).After-even-overall) ≡ 0 = sym (overall (goal.at.returns-then-n-eq0 c).After-even-overall) ∙ c.if-overall-eq0.true in
     let n : spelt (word (goal.at.returns-then-n-eq0 c).After-even-overall) ≡ 0 = sym c.wrong_bit-n.ensures ∙ c.if-n-eq0.true in
-    ap Clean c.data_bits-v.ensures ∙ clean_told (word (goal.at.returns-then-n-eq0 c).After-even-overall) (search rules) o n
+    ap Clean c.data_bits.ensures ∙ clean_told (word (goal.at.returns-then-n-eq0 c).After-even-overall) (search rules) o n
 
 pub returns-then-overall-eq0 : goal.returns-then-overall-eq0
 returns-then-overall-eq0 c =
@@ -41,5 +41,5 @@ pub returns : goal.returns
 returns c =
     let o : wrong all (word (goal.at.returns c).After-even-overall) ≡ 1 = fails all (word (goal.at.returns c).After-even-overall) (overall (goal.at.returns c).After-even-overall) c.if-overall-eq0.false in
     let n = c.wrong_bit-n.result in
-    let v : c.data_bits-v-2.result ≡ data_of (bit_xor (word (goal.at.returns c).After-even-overall) (1 * 2 ^ n % 4294967296 / 2)) = c.data_bits-v-2.ensures in
+    let v : c.data_bits-2.result ≡ data_of (bit_xor (word (goal.at.returns c).After-even-overall) (1 * 2 ^ n % 4294967296 / 2)) = c.data_bits-2.ensures in
     ap Mended v ∙ mended_told (word (goal.at.returns c).After-even-overall) (search rules) o n c.wrong_bit-n.ensures c.if-n-gt23.false

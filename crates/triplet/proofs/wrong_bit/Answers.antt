@@ -11,8 +11,8 @@ unfolding covered run
 returns c =
     let w = c.args.w in
     spelt_sum w _ _ _ _ _
-    (c.even-s1.ensures ∙ check (covered 1) _ w (omega arith) refl)
-    (c.even-s2.ensures ∙ check (covered 2) _ w (omega arith) refl)
-    (c.even-s4.ensures ∙ check (covered 4) _ w (omega arith) refl)
-    (c.even-s8.ensures ∙ check (covered 8) _ w (omega arith) refl)
-    (c.even-s16.ensures ∙ check (covered 16) _ w (omega arith) refl)
+    (c.even.ensures ∙ check (covered 1) _ w (omega arith) refl)
+    (c.even-2.ensures ∙ check (covered 2) _ w (omega arith) refl)
+    (c.even-3.ensures ∙ check (covered 4) _ w (omega arith) refl)
+    (c.even-4.ensures ∙ check (covered 8) _ w (omega arith) refl)
+    (c.even-5.ensures ∙ check (covered 16) _ w (omega arith) refl)

@@ -21,7 +21,7 @@ put-requires c =
 pub loop-i-preserved : goal.loop-i-preserved
 loop-i-preserved c =
     let a = c.args in
-    stored_more (set a.out.now 0 a.count) a.programmes c.loop-i.invariant _ (search rules) c.bytes_of-bytes.ensures c.put.ensures
+    stored_more (set a.out.now 0 a.count) a.programmes c.loop-i.invariant _ (search rules) c.bytes_of.ensures c.put.ensures
 
 pub returns : goal.returns
 returns c =

@@ -1,13 +1,9 @@
 -- `fill` goes through bytes 9 to 21. The invariant: the bytes from 9 up to i have been written, each from four bits of the number.
-use Prim.Native.Nat.{◌-◌, ◌≤◌}
-use mathlib.Core.Path.{◌≡◌}
+use Rattle.std.proofs.Common.{◌-◌, ◌≡◌}
 use Rattle.label.specs.Packet.{put}
 use Rattle.label.proofs.Puts.{run}
 use Rattle.label.proofs.Sent.{byte_of}
 use Rattle.writer.proofs.fill.Given as goal
 
 abbrev pub invariant-loop-i : goal.invariant-loop-i
-invariant-loop-i l = (9 ≤ l.i) × (l.i ≤ 22) × (l.buf ≡ put (byte_of l.number) (run 9 (l.i - 9)) l.initial.buf)
-
-abbrev pub decreases-loop-i : goal.decreases-loop-i
-decreases-loop-i l = 22 - l.i
+invariant-loop-i l = l.buf ≡ put (byte_of l.number) (run 9 (l.i - 9)) l.initial.buf

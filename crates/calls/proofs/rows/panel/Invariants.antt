@@ -1,9 +1,6 @@
 -- The loop's invariant: the sum is cut below 65536, so that no turn exceeds its width.
-use Prim.Native.Nat.{◌-◌, ◌<◌}
+use Rattle.std.proofs.Common.{◌<◌}
 use Rattle.calls.proofs.rows.panel.Given as goal
 
-abbrev pub invariant-loop-k : goal.invariant-loop-k
-invariant-loop-k l = l.all < 65536
-
-abbrev pub decreases-loop-k : goal.decreases-loop-k
-decreases-loop-k l = l.often - l.k
+abbrev pub invariant-loop : goal.invariant-loop
+invariant-loop l = l.all < 65536

@@ -13,9 +13,9 @@ pub returns-then-quiet : goal.returns-then-quiet
 returns-then-quiet c =
     let t = c.args.t in
     let d = c.loop-d.d in
-    let q : quiet d ≡ true = sym c.quiet-quiet.ensures ∙ c.if-quiet.true in
+    let q : quiet d ≡ true = sym c.quiet.ensures ∙ c.if-quiet.true in
     let z = jump_walked t d q in
-    (omega (arith, c.loop-d.invariant.0), c.moment_at-last.ensures ∙ sym (c.loop-d.invariant.1 ∙ jump_pass t d c.loop-d-test.true q))
+    (omega (arith, c.loop-d.invariant.0), c.moment_at.ensures ∙ sym (c.loop-d.invariant.1 ∙ jump_pass t d c.loop-d-test.true q))
 
 pub loop-d-smaller : goal.loop-d-smaller
 loop-d-smaller c =
@@ -29,7 +29,7 @@ loop-d-preserved c =
     let r = c.step-d.result in
     let q = c.step-d.ensures in
     let e = turn_clock t d r q in
-    let u = turn_walked t d r q c.loop-d-test.true (sym c.quiet-quiet.ensures ∙ c.if-quiet.false) in
+    let u = turn_walked t d r q c.loop-d-test.true (sym c.quiet.ensures ∙ c.if-quiet.false) in
     (omega (arith, c.loop-d.invariant.0), c.loop-d.invariant.1 ∙ turn_pass t d r q c.loop-d-test.true, omega (arith, c.loop-d-test.true, c.loop-d.invariant.2))
 
 pub returns : goal.returns

@@ -1,15 +1,13 @@
 -- `take`'s loop: the bytes from here on, taken with what is held now, come to what all come to. The measure is what is left of the
 -- piece.
-use Prim.Native.Nat.{◌-◌}
-use mathlib.Core.Path.{◌≡◌}
-use lib.ListN.{length, drop}
+use Rattle.std.proofs.Common.{◌-◌, ◌≡◌, length, drop}
 use Rattle.items.specs.Pieces.{taken_from}
 use Rattle.items.proofs.Split.take.Given as goal
 
-abbrev pub invariant-loop-at : goal.invariant-loop-at
-invariant-loop-at l =
-    taken_from (drop l.at l.piece) l.at (record { stage = l.stage; have = l.have; held = l.held })
-    ≡ taken_from (drop l.initial.at l.piece) l.initial.at (record { stage = l.stage; have = l.initial.have; held = l.initial.held })
+abbrev pub invariant-loop-b : goal.invariant-loop-b
+invariant-loop-b l =
+    taken_from (drop l.at l.piece) l.at (record { stage = l.self.stage; have = l.have; held = l.held })
+    ≡ taken_from (drop l.initial.at l.piece) l.initial.at (record { stage = l.self.stage; have = l.initial.have; held = l.initial.held })
 
-abbrev pub decreases-loop-at : goal.decreases-loop-at
-decreases-loop-at l = length l.piece - l.at
+abbrev pub decreases-loop-b : goal.decreases-loop-b
+decreases-loop-b l = length l.piece - l.at

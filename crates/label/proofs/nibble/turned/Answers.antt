@@ -60,5 +60,5 @@ returns-in-13 c = looked _ 13 c.in-13.is
 pub returns-in-14 : goal.returns-in-14
 returns-in-14 c = looked _ 14 c.in-14.is
 
-pub returns-in-15-to-255 : goal.returns-in-15-to-255
-returns-in-15-to-255 c = let v = c.args.v in let last : v % 16 ≡ 15 = omega (arith, c.in-15-to-255) in looked v 15 last
+pub returns-in_default : goal.returns-in_default
+returns-in_default c = let v = c.args.v in let last : v % 16 ≡ 15 = omega (arith, c.in_default) in looked v 15 last

@@ -1,10 +1,8 @@
--- `put_page`'s loop: the lines of the programmes passed are stored (`Along`). The measure is how many are left.
-use Prim.Native.Nat.{◌-◌, ◌≤◌}
-use Rattle.listing.proofs.Storing.{Along}
+-- `put_page`'s loop: the lines of the programmes passed are printed.
+use Rattle.std.proofs.Common.{take}
+use Rattle.text.specs.Printed.{Printed}
+use Rattle.listing.specs.Listing.{programme_lines}
 use Rattle.listing.proofs.pieces.put_page.Given as goal
 
-abbrev pub invariant-loop-i : goal.invariant-loop-i
-invariant-loop-i l = Along l.initial.out l.programmes l.i l.out l.at × (l.i ≤ l.shown)
-
-abbrev pub decreases-loop-i : goal.decreases-loop-i
-decreases-loop-i l = l.shown - l.i
+abbrev pub invariant-loop-q : goal.invariant-loop-q
+invariant-loop-q l = Printed l.initial.out (programme_lines (take l.q-index l.shown)) l.out

@@ -12,4 +12,4 @@ pub returns : goal.returns
 returns c =
     let a = c.args in
     let end : c.least-end.result ≡ held_in a.n = c.least-end.ensures in
-    rw (← end) c.read.ensures.verdict_value
+    rw (← end) c.read.ensures.result_value

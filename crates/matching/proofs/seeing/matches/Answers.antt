@@ -2,8 +2,8 @@
 use Rattle.matching.proofs.Sights.{match_named}
 use Rattle.matching.proofs.seeing.matches.Goals as goal
 
-pub returns-then-ours : goal.returns-then-ours
-returns-then-ours c = rw (match_named, ← c.named-ours.ensures, c.if-ours.true) c.open_at.ensures
+pub returns-then-named : goal.returns-then-named
+returns-then-named c = rw (match_named, ← c.named.ensures, c.if-named.true) c.open_at.ensures
 
-pub returns : goal.returns
-returns c = rw (match_named, ← c.named-ours.ensures, c.if-ours.false)
+pub returns-else-named : goal.returns-else-named
+returns-else-named c = rw (match_named, ← c.named.ensures, c.if-named.false)

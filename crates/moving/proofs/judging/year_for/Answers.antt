@@ -15,12 +15,12 @@ tested : (b : Booking) (pil : ℕ) (p q : Announced) (t : Bool) → p ≡ parts_
 unfolding year_for
 tested b pil p q t e f g = rw (← g, e, f) refl
 
-pub returns-then-from-to : goal.returns-then-from-to
-returns-then-from-to c =
+pub returns-then-parts : goal.returns-then-parts
+returns-then-parts c =
     let a = c.args in
-    tested a.b a.pil _ _ true c.parts-from.ensures c.parts-to.ensures c.if-from-to.true
+    tested a.b a.pil _ _ true c.parts.ensures c.parts-2.ensures c.if-parts.true
 
 pub returns : goal.returns
 returns c =
     let a = c.args in
-    omega (arith, tested a.b a.pil _ _ false c.parts-from.ensures c.parts-to.ensures c.if-from-to.false)
+    omega (arith, tested a.b a.pil _ _ false c.parts.ensures c.parts-2.ensures c.if-parts.false)

@@ -33,15 +33,15 @@ module _ (s slot : ℕ) (b : Booking) (ts others : List Timer) (free : Timer) {h
   alone : held ≡ false → left false ≡ moved_in s slot b ts
   alone e = sym (ap left e) ∙ by_the_test
 
-pub returns-then-held : goal.returns-then-held
-returns-then-held c =
+pub returns-then-any_holds : goal.returns-then-any_holds
+returns-then-any_holds c =
     let a = c.args in
-    twin a.s a.slot a.b a.timers _ _ c.no_timer-free.ensures c.put_timer-others.ensures c.any_holds-held.ensures c.if-held.true
+    twin a.s a.slot a.b a.timers _ _ c.no_timer.ensures c.put_timer-others.ensures c.any_holds.ensures c.if-any_holds.true
 
 pub returns : goal.returns
 returns c =
     let a = c.args in
-    let put : c.put_timer.result ≡ set a.timers a.slot (record { booking = a.b; copy = c.timer_at-old.result.copy }) = c.put_timer.ensures in
+    let put : c.put_timer.result ≡ set a.timers a.slot (record { booking = a.b; copy = c.timer_at.result.copy }) = c.put_timer.ensures in
     put
-    ∙ ap (λ (x : Timer). set a.timers a.slot (record { booking = a.b; copy = x.copy })) c.timer_at-old.ensures
-    ∙ alone a.s a.slot a.b a.timers _ _ c.no_timer-free.ensures c.put_timer-others.ensures c.any_holds-held.ensures c.if-held.false
+    ∙ ap (λ (x : Timer). set a.timers a.slot (record { booking = a.b; copy = x.copy })) c.timer_at.ensures
+    ∙ alone a.s a.slot a.b a.timers _ _ c.no_timer.ensures c.put_timer-others.ensures c.any_holds.ensures c.if-any_holds.false

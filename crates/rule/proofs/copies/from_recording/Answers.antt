@@ -8,26 +8,26 @@ use Rattle.rule.specs.Rule.{recording_at}
 use Rattle.rule.proofs.Steps.{moves_not_live, live_shut, recording_stays, recording_leaves}
 use Rattle.rule.proofs.copies.from_recording.Goals as goal
 
-pub returns-then-still : goal.returns-then-still
+pub returns-then-matches : goal.returns-then-matches
 unfolding recording_at
-returns-then-still c =
+returns-then-matches c =
     let a = c.args in
     let there = c.label_at-own.ensures in
-    let still : matches a.s a.b (get_or a.places a.p no_label) ≡ true = rw there at (sym c.matches-still.ensures ∙ c.if-still.true) in
+    let still : matches a.s a.b (get_or a.places a.p no_label) ≡ true = rw there at (sym c.matches.ensures ∙ c.if-matches.true) in
     rw (recording_stays a.s a.places a.b a.p a.mi still, there)
 
-pub returns-then-not-open : goal.returns-then-not-open
-returns-then-not-open c =
+pub returns-then-not-open_at : goal.returns-then-not-open_at
+returns-then-not-open_at c =
     let a = c.args in
-    let shut : open_at a.s a.b ≡ false = sym c.open_at-open.ensures ∙ c.if-not-open.true in
+    let shut : open_at a.s a.b ≡ false = sym c.open_at.ensures ∙ c.if-not-open_at.true in
     sym (live_shut a.s a.places a.b _ refl shut)
 
 pub returns-then-mi : goal.returns-then-mi
 returns-then-mi c =
     let a = c.args in
     let gone : matches a.s a.b (get_or a.places a.p no_label) ≡ false =
-    rw c.label_at-own.ensures at (sym c.matches-still.ensures ∙ c.if-still.false) in
-    let opened : open_at a.s a.b ≡ true = sym c.open_at-open.ensures ∙ c.if-not-open.false in
+    rw c.label_at-own.ensures at (sym c.matches.ensures ∙ c.if-matches.false) in
+    let opened : open_at a.s a.b ≡ true = sym c.open_at.ensures ∙ c.if-not-open_at.false in
     let remembered : a.mi ≡ true = c.if-mi.true in
     rw (recording_leaves a.s a.places a.b a.p a.mi gone opened, remembered, ← c.sight_of-seen.ensures, moves_not_live) c.not_live.ensures
 
@@ -35,7 +35,7 @@ pub returns : goal.returns
 returns c =
     let a = c.args in
     let gone : matches a.s a.b (get_or a.places a.p no_label) ≡ false =
-    rw c.label_at-own.ensures at (sym c.matches-still.ensures ∙ c.if-still.false) in
-    let opened : open_at a.s a.b ≡ true = sym c.open_at-open.ensures ∙ c.if-not-open.false in
+    rw c.label_at-own.ensures at (sym c.matches.ensures ∙ c.if-matches.false) in
+    let opened : open_at a.s a.b ≡ true = sym c.open_at.ensures ∙ c.if-not-open_at.false in
     let remembered : a.mi ≡ false = c.if-mi.false in
     rw (recording_leaves a.s a.places a.b a.p a.mi gone opened, remembered, ← c.sight_of-seen.ensures) c.moves_or.ensures

@@ -1,29 +1,37 @@
--- `entries_of`'s loop: the timers of the programmes passed are entered. The measure is how many are left.
+-- `entries_of`'s loop: the timers of the programmes passed are entered.
 use borrow.Author.Rules.{rules}
-use mathlib.Core.Path.{sym, ◌∙◌}
+use mathlib.Core.Path.{◌≡◌, sym, ap, ◌∙◌}
 use native.Mathlib.Omega.{arith}
-use Rattle.section.proofs.Entered.{entered_none, entered_further, few_entered, all_entered}
+use mathlib.Core.List.{List}
+use lib.ListN.{take, length-take}
+use lib.Seq.{take_all}
+use Rattle.preview.specs.declared.Programme.{Programme}
+use Rattle.section.specs.Section.{timers_of}
+use Rattle.section.specs.Taken.{entered}
+use Rattle.section.proofs.Entered.{entered_none, entered_further, few_entered, all_shown}
 use Rattle.section.proofs.timers.entries_of.Goals as goal
 
-pub loop-i-init : goal.loop-i-init
-loop-i-init c = let a = c.args in (search rules, search rules, c.least-shown.ensures, entered_none a.tuner a.programmes)
+pub loop-q-init : goal.loop-q-init
+loop-q-init c = let a = c.args in entered_none a.tuner (take c.least-shown.result a.programmes)
 
 pub after_timer-had-requires : goal.after_timer-had-requires
 after_timer-had-requires c =
     let a = c.args in
-    let inv = c.loop-i.invariant in
-    omega (arith, few_entered a.programmes a.tuner c.loop-i.i c.loop-i.had (omega arith) inv.3)
+    let items = take c.least-shown.result a.programmes in
+    omega (arith, few_entered items a.tuner c.loop-q.q-index c.loop-q.had (omega arith) c.loop-q.invariant, length-take c.least-shown.result a.programmes)
 
-pub loop-i-preserved : goal.loop-i-preserved
-loop-i-preserved c =
+pub loop-q-preserved : goal.loop-q-preserved
+loop-q-preserved c =
     let a = c.args in
-    let inv = c.loop-i.invariant in
-    let more = entered_further a.programmes a.tuner c.loop-i.i (omega arith) in
-    (search rules, inv.1, inv.2, c.after_timer-had.ensures ∙ rw (c.timer_of.ensures, inv.3) (sym more))
+    let items = take c.least-shown.result a.programmes in
+    let more = entered_further items a.tuner c.loop-q.q-index (omega arith) in
+    c.after_timer-had.ensures ∙ rw (c.timer_of.ensures, c.loop-q.invariant) (sym more)
 
 pub returns : goal.returns
 returns c =
     let a = c.args in
-    let inv = c.loop-i.invariant in
-    let few = few_entered a.programmes a.tuner c.loop-i.i c.loop-i.had (omega arith) inv.3 in
-    (inv.3 ∙ all_entered a.programmes a.tuner a.count c.loop-i.i inv.1 (omega arith), omega arith)
+    let items = take c.least-shown.result a.programmes in
+    let few = few_entered items a.tuner c.loop-q.q-index c.loop-q.had (omega arith) c.loop-q.invariant in
+    let all : take c.loop-q.q-index items ≡ items = take_all c.loop-q.q-index items c.loop-q-test.false in
+    let shown : items ≡ take a.count a.programmes = rw c.least-shown.ensures (all_shown a.programmes a.count (search rules)) in
+    (c.loop-q.invariant ∙ ap (λ (qs : List Programme). entered a.tuner (timers_of qs)) (all ∙ shown), omega (arith, length-take c.least-shown.result a.programmes))

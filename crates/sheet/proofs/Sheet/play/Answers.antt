@@ -1,6 +1,5 @@
 -- `play`'s loop: what is left of the piece, fed from here, comes to what the whole piece comes to, and finds room (`Along`).
 -- The measure is what is left of the piece.
-use mathlib.Core.Bool.{true}
 use mathlib.Core.Path.{refl, ap}
 use native.Mathlib.Omega.{arith}
 use Rattle.items.specs.declared.Taken.{Taken}
@@ -34,4 +33,4 @@ shape_of-out c = c.loop-i.invariant.long
 pub returns : goal.returns
 returns c =
     let e = ended c.loop-i.invariant c.loop-i-test.false in
-    (ap (λ (o : Outcome). record { taken = true; sheet = o.sheet; at = o.at }) e, ap (λ (o : Outcome). o.out) e)
+    (ap (λ (o : Outcome). record { sheet = o.sheet; at = o.at }) e, ap (λ (o : Outcome). o.out) e)

@@ -14,13 +14,13 @@ returns c =
     -- what the desk was asked
     let asked : packet_of (get_or a.held 4 0) c.four-time.result (take 42 (drop 5 a.held)) a.desk ≡ packet_in (take 47 a.held) a.desk =
     packet_bytes a.held c.four-time.result a.desk (search rules) c.four-time.ensures in
-    let after_it : c.live-live.result ≡ c.packet-heard.result.desk.live = c.live-live.ensures in
+    let after_it : c.live.result ≡ c.packet-heard.result.desk.live = c.live.ensures in
     rw (
       ← asked,
       ← c.packet-heard.ensures.answer_value.1,
       ← c.packet-heard.ensures.answer_value.0,
       ← c.number-number.ensures,
       ← after_it,
-      c.packet_line-next.ensures.0,
+      c.packet_line.ensures.0,
     )
-    (refl, c.packet_line-next.ensures.1)
+    (refl, c.packet_line.ensures.1)

@@ -1,32 +1,29 @@
--- `put_page`'s loop: the lines of the programmes passed are stored (`Along`). The measure is how many are left.
-use borrow.Author.Rules.{rules}
-use Prim.Native.Nat.{min}
-use mathlib.Core.Path.{◌≡◌}
-use native.Mathlib.Omega.{arith}
-use lib.ListN.{take}
-use Rattle.answer.proofs.Texts.{then}
+-- `put_page`'s loop: the lines of the programmes passed are printed.
+use Rattle.std.proofs.Common.{rules, ◌≡◌, length, take, refl, arith}
 use Rattle.table.specs.Table.{most}
+use Rattle.text.proofs.Printing.{then, nothing}
 use Rattle.view.specs.View.{programme_lines, count_line}
-use Rattle.view.proofs.Storing.{none, short, same_room, further, whole}
+use Rattle.view.proofs.Storing.{further, all_shown}
 use Rattle.view.proofs.page.put_page.Goals as goal
 
-pub loop-i-init : goal.loop-i-init
-loop-i-init c = (none _ _ (search rules), search rules)
+pub loop-q-init : goal.loop-q-init
+unfolding programme_lines
+loop-q-init c = (refl, nothing c.args.out.now)
 
-pub programme_line-at-requires : goal.programme_line-at-requires
-programme_line-at-requires c =
-    omega (arith, short c.loop-i.invariant.0, same_room c.loop-i.invariant.0, c.requires)
-
-pub loop-i-preserved : goal.loop-i-preserved
-loop-i-preserved c =
-    (further c.loop-i.invariant.0 (search rules) c.programme_line-at.ensures, search rules)
-
-pub count_line-requires : goal.count_line-requires
-count_line-requires c =
-    omega (arith, short c.loop-i.invariant.0, same_room c.loop-i.invariant.0, c.requires)
+pub loop-q-preserved : goal.loop-q-preserved
+loop-q-preserved c =
+    let a = c.args in (
+      search rules,
+      further a.out.now c.loop-q.out (take c.least.result a.programmes) c.loop-q.q-index c.loop-q.invariant.1 c.loop-q-test.true
+          c.programme_line.new.out c.programme_line.ensures.1,
+    )
 
 pub returns : goal.returns
 returns c =
     let a = c.args in
-    let all : c.loop-i.i ≡ min a.count most = omega (arith, c.least-shown.ensures) in
-    then a.out.now 0 (programme_lines (take a.count a.programmes)) (count_line a.count) (whole c.loop-i.invariant.0 a.count all) c.count_line.ensures
+    let sized : length a.programmes ≡ most = search rules in
+    let passed = all_shown a.programmes c.loop-q.q-index a.count sized (rw (← c.least.ensures) (omega (arith, c.loop-q-test.false))) in (
+      search rules,
+      then a.out.now c.loop-q.out c.count_line.new.out (programme_lines (take a.count a.programmes)) (count_line a.count)
+          (rw (← passed, ← c.least.ensures) c.loop-q.invariant.1) c.count_line.ensures.1,
+    )

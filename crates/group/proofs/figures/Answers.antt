@@ -1,6 +1,0 @@
--- `figures`: tens and units.
-use mathlib.Core.Path.{refl}
-use Rattle.group.proofs.figures.Goals as goal
-
-pub returns : goal.returns
-returns c = refl

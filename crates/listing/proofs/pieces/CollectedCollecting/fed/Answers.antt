@@ -1,0 +1,11 @@
+-- `fed`: each byte of a piece leaves one less.
+use mathlib.Core.Path.{ap}
+use native.Mathlib.Omega.{arith}
+use Rattle.listing.specs.declared.Collected.{Collected}
+use Rattle.listing.proofs.Keeping.{length_more}
+use Rattle.listing.proofs.pieces.CollectedCollecting.fed.Goals as goal
+
+pub returns-clause-less : goal.returns-clause-less
+returns-clause-less c =
+    let a = c.args in
+    omega (arith, ap (λ (r : Collected). r.held.length) c.feed.ensures.value, length_more a.piece.now a.self)

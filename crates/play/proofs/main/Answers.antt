@@ -1,9 +1,0 @@
--- `main`'s loop: at each turn the buffer has room for what a whole piece prints. The measure is how many
--- bytes may still decide something.
-use Rattle.items.proofs.Taking.{deciding_less}
-use Rattle.play.proofs.main.Goals as goal
-
-pub loop-left-smaller : goal.loop-left-smaller
-loop-left-smaller c =
-    rw c.still_deciding-left.ensures
-    (deciding_less c.loop-left.left c.play_piece-t.result.got c.left_over.result c.loop-left-test.true)

@@ -1,0 +1,4 @@
+pub mod Rooms
+pub mod Storing
+pub mod Printing
+pub mod Proved
