@@ -1,6 +1,5 @@
 // Match: whose label stands where, and what a timer sees. The second and the places are two parameters, as in `rule`.
-ghost use Rattle.std.specs.Prelude.{eqb, cond, not, position, ◌&&◌, ◌≡◌};
-ghost use Rattle.answer.specs.Lists.{some};
+ghost use Rattle.std.specs.Prelude.{eqb, cond, position, Some, ◌≡◌};
 ghost use Rattle.matching.specs.Matching.{open_at, matches, sight_of};
 ghost use Rattle.matching.specs.Look.{named, look_of};
 
@@ -24,39 +23,30 @@ pub fn matches(s: u32, b: Booking, l: Stamped) -> bool
     named(s, b, l) && open_at(s, b)
 }
 
-// Whether a place has a PIL, whether or not its label stands.
-fn any_with(places: [Stamped; 16], pil: u32) -> bool
-    ensures { result ≡ some (λ l. eqb l.pil pil) places }
+// The lowest place with a PIL, whether or not its label stands.
+fn first_with(places: [Stamped; 16], pil: u32) -> Option<usize>
+    ensures { result ≡ position (λ l. eqb l.pil pil) places }
 {
-    places.iter().any(|l| l.pil == pil)
+    places.iter().position(|l| l.pil == pil)
 }
 
-// 'The lowest match with PRF 0', as if the window were open.
-fn first_starting(s: u32, places: [Stamped; 16], b: Booking) -> Option<usize>
-    ensures { result ≡ position (λ l. named s b l && not l.prf) places }
-{
-    places.iter().position(|l| named(s, b, *l) & !l.prf)
-}
-
-// The lowest match, as if the window were open.
-fn first_named(s: u32, places: [Stamped; 16], b: Booking) -> Option<usize>
-    ensures { result ≡ position (named s b) places }
-{
-    places.iter().position(|l| named(s, b, *l))
-}
-
-// What a timer would see if its window were open.
-#[tactic(auto, unfolding(crate::specs::Look::look_of))]
-fn look(s: u32, places: [Stamped; 16], b: Booking) -> Sight
+// One look at the places from the first with the PIL on, as if the window were open; a label with PRF 0 ends it, since no other can come before it.
+// By a `for`: a loop that begins at a place found at run time is not unrolled (docs/PERFORMANCE.md).
+fn look(s: u32, places: [Stamped; 16], b: Booking, from: usize) -> Sight
+    requires { Some from ≡ position (λ l. eqb l.pil b.pil) places }
     ensures { result ≡ look_of s places b }
 {
-    if let Some(p) = first_starting(s, places, b) {
-        return Sight::Start(p as u8);
+    let mut first = None;
+    for i in from..16 {
+        let l = places[i];
+        if named(s, b, l) {
+            if !l.prf {
+                return Sight::Start(i as u8);
+            }
+            first = first.or(Some(i as u8));
+        }
     }
-    match first_named(s, places, b) {
-        Some(p) => Sight::Prepare(p as u8),
-        None => Sight::Nothing,
-    }
+    first.map_or(Sight::Nothing, Sight::Prepare)
 }
 
 fn if_open(s: u32, b: Booking, seen: Sight) -> Sight
@@ -70,10 +60,10 @@ fn if_open(s: u32, b: Booking, seen: Sight) -> Sight
 pub fn sight_of(s: u32, places: [Stamped; 16], b: Booking) -> Sight
     ensures { result ≡ sight_of s places b }
 {
-    if !any_with(places, b.pil) {
+    let Some(from) = first_with(places, b.pil) else {
         return Sight::Nothing;
-    }
-    match look(s, places, b) {
+    };
+    match look(s, places, b, from) {
         Sight::Nothing => Sight::Nothing,
         seen => if_open(s, b, seen),
     }

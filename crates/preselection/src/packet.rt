@@ -93,19 +93,19 @@ pub(crate) fn take(bytes: &[u8], k: usize, state: State, page: Page) -> Taken
         × (result.page.count ≤ page.count + 13)
         × ((qs : List Programme) → page ≡ page_of qs → result.page ≡ page_of (programmes_from state qs (groups_in bytes.now k))) }
 {
-    let mut taken = Taken {
-        damaged: false,
-        state,
-        page,
-    };
+    let mut damaged = false;
+    let mut s = state;
+    let mut so_far = page;
     for j in 0..13 {
         let t = triplet_at(bytes, k, j);
+        damaged |= is_damaged(t);
         let g = group::group_of(bits_in(t));
-        taken = Taken {
-            damaged: taken.damaged | is_damaged(t),
-            state: taken.state.next(g),
-            page: change(taken.page, taken.state.change(g)),
-        };
+        change(&mut so_far, s.change(g));
+        s = s.next(g);
     }
-    taken
+    Taken {
+        damaged,
+        state: s,
+        page: so_far,
+    }
 }

@@ -6,7 +6,7 @@ use native.Mathlib.Numerals.{add-one}
 use native.Mathlib.Omega.{arith}
 use native.Mathlib.Decide.{dec_lt}
 use lib.ListN.{length, get_or, take, set, replicate, length-append}
-use lib.Seq.{sets, take-suc, take_all, length-take-le}
+use lib.Seq.{sets, take-suc, take_all, length-take-le, take-take, take-append_seam}
 use Rattle.std.proofs.Common.{Option, None, Some, Result}
 use Rattle.answer.specs.Answer.{Answer, refused, given}
 use Rattle.answer.specs.Lists.{filled}
@@ -21,7 +21,7 @@ use Rattle.booked.specs.declared.Booked.{Booked}
 use Rattle.booked.specs.Timer.{timer_of}
 use Rattle.table.specs.Table.{most}
 use Rattle.section.specs.declared.Entries.{Entries}
-use Rattle.section.specs.Section.{entry_of, onto_timers, timers_of, entries_of, section_of, written, longest, held_as, section_by}
+use Rattle.section.specs.Section.{entry_of, onto_timers, timers_of, entries_of, section_of, written, longest, held_as, section_by, text_of}
 use Rattle.section.specs.Taken.{entered, after_timer, counted, section_read}
 
 pub nine : (tuner : ℕ) (b : Booked) → length (entry_of tuner b) ≡ 9
@@ -124,6 +124,13 @@ few_bytes tuner (refused n) s =
     let none : length (written tuner (refused n)) ≡ 0 = refl in
     omega (arith, none)
 few_bytes tuner (given qs) s = omega (arith, section_length tuner (timers_of qs), few_timers qs)
+
+-- what is held of it is the whole text
+pub text_whole : (tuner : ℕ) (a : Answer (List Programme)) → Sound a → text_of (section_by tuner a) ≡ written tuner a
+text_whole tuner (refused n) s = refl
+text_whole tuner (given qs) s =
+    let text = written tuner (given qs) in
+    take-take (length text) longest (text ++ replicate longest 0) (few_bytes tuner (given qs) s) ∙ take-append_seam text (replicate longest 0)
 
 -- a page as the reader gives it
 same_section : (tuner : ℕ) (a : Answer (List Programme)) → Sound a → section_read tuner (paged a) ≡ section_by tuner a

@@ -4,7 +4,7 @@ use Rattle.answer.proofs.Answers.{equation, paired}
 use Rattle.collected.proofs.Readings.{sound}
 use Rattle.section.specs.Laws.{Laws}
 use Rattle.section.specs.Asked.{nothing, after_piece, is_full}
-use Rattle.section.proofs.Entered.{few_bytes}
+use Rattle.section.proofs.Entered.{few_bytes, text_whole}
 use Rattle.section.proofs.Machine.{told, pieces, settled, section_once}
 use Rattle.section.proofs.Sheets.{timers, fields}
 
@@ -14,6 +14,7 @@ laws = record {
   pieces = pieces;
   settled = settled;
   room = λ tuner page a w. few_bytes tuner a (sound page a w);
+  whole = λ tuner page a w. text_whole tuner a (sound page a w);
   timers = timers;
   fields = fields;
   new_unique = equation nothing;

@@ -11,7 +11,7 @@ use Rattle.preview.specs.Taken.{reading_answer}
 use Rattle.booked.specs.declared.Booked.{Booked}
 use Rattle.section.specs.declared.Section.{Section}
 use Rattle.section.specs.declared.Asked.{Asked}
-use Rattle.section.specs.Section.{entry_of, section_of, written, longest, section_by}
+use Rattle.section.specs.Section.{entry_of, section_of, written, longest, section_by, text_of}
 use Rattle.section.specs.Asked.{tuner_in, page_in, section_in, nothing, after_piece, is_full, SectionAs}
 
 -- after pieces one after the other
@@ -28,6 +28,8 @@ pub record Laws : Type 0 where
   pub settled : (ps : List (List ℕ)) (k : Asked) (r : Answer Section) → is_full k ≡ true → SectionAs k r → SectionAs (after_pieces ps k) r
   -- the section finds room
   pub room : (tuner : ℕ) (page : List ℕ) (a : Answer (List Programme)) → Answers page a → length (written tuner a) ≤ longest
+  -- and what an answer has to write is what is written: the whole section, and nothing of a refused page
+  pub whole : (tuner : ℕ) (page : List ℕ) (a : Answer (List Programme)) → Answers page a → text_of (section_by tuner a) ≡ written tuner a
   -- a sheet that begins with it holds these timers, in this order, and then what follows it: no byte of one is taken for another
   pub timers : (tuner : ℕ) (bs : List Booked) (rest : List ℕ) →
       items_of (section_of tuner bs ++ rest) ≡ onto (map (λ b. timer (entry_of tuner b)) bs) (on_packet_count (next 2 rest))

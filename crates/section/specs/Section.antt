@@ -1,5 +1,5 @@
 -- The timers section of a sheet, out of a preview page (document 02, #108).
-use Rattle.std.specs.Prelude.{ℕ, zero, suc, ◌/◌, ◌%◌, List, [], ◌∷◌, ◌++◌, length, Option, None, Some}
+use Rattle.std.specs.Prelude.{ℕ, zero, suc, ◌/◌, ◌%◌, List, [], ◌∷◌, ◌++◌, length, take, Option, None, Some}
 use Rattle.answer.specs.Answer.{Answer, refused, given}
 use Rattle.answer.specs.Lists.{filled}
 use Rattle.preview.specs.declared.Programme.{Programme}
@@ -54,3 +54,8 @@ held_as text = record { length = length text; bytes = filled longest 0 text }
 abbrev pub section_by : ℕ → Answer (List Programme) → Answer Section
 section_by tuner (refused n) = refused n
 section_by tuner (given qs) = given (held_as (written tuner (given qs)))
+
+-- what an answer has to write: the bytes that are held, and of a refused page none (law `whole`)
+abbrev pub text_of : Answer Section → List ℕ
+text_of (refused n) = []
+text_of (given s) = take s.length s.bytes

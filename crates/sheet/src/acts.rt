@@ -1,5 +1,5 @@
 // A whole item: its numbers, what it does to the desk, and what it prints. `out` and `at` are two, as in `Sheet::feed`, whose promise names
-// both; a printer stands in `lines.rt`.
+// both; a printer stands in `lines.rt`. The line is printed first: what is taken out of an answer before a call is copied once more.
 ghost use Rattle.std.specs.Prelude.{◌+◌, ◌≤◌, ◌≡◌, length, take};
 ghost use Rattle.std.proofs.lemmas.List.Edits.{sets};
 ghost use Rattle.items.specs.Pieces.{items_found};
@@ -28,9 +28,10 @@ fn timer(desk: Desk, held: [u8; 47], out: &mut [u8], at: usize) -> Left
     let pil = triple(held[2], held[3], held[4]);
     let length = pair(held[7], held[8]);
     let added = desk.add(cni, pil, held[5], held[6], length);
+    let at = timer_line(out, at, added.answer);
     Left {
         desk: added.desk,
-        at: timer_line(out, at, added.answer),
+        at,
     }
 }
 
@@ -43,9 +44,10 @@ fn packet(desk: Desk, held: [u8; 47], out: &mut [u8], at: usize) -> Left
     let time = four(held[0], held[1], held[2], held[3]);
     let heard = desk.packet(held[4], time, &held[5..47]);
     let number = reply::number(heard.answer);
+    let at = packet_line(out, at, number, heard.desk.live());
     Left {
         desk: heard.desk,
-        at: packet_line(out, at, number, heard.desk.live()),
+        at,
     }
 }
 

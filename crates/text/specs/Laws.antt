@@ -6,7 +6,7 @@ use Rattle.text.specs.Printed.{Follows}
 use Rattle.text.specs.Columns.{column_in, pair, signed, hour_minute, quarters, number_line}
 
 pub record Laws : Type 0 where
-  -- nothing is longer than the room that is asked for it
+  -- how long each text is at most
   pub column_room : (k n : ℕ) → length (column_in k n) ≤ 1 + k
   pub pair_room : (a b : ℕ) → length (pair a b) ≤ 8
   pub signed_room : (sign : ℕ) (shown : Bool) → length (signed sign shown) ≤ 2

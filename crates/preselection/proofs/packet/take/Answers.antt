@@ -11,8 +11,8 @@ loop-j-init c = along_none _ _ _ _
 
 pub loop-j-preserved : goal.loop-j-preserved
 loop-j-preserved c =
-    along_more _ _ c.loop-j.invariant (search rules) c.triplet_at-t.ensures c.is_damaged.ensures c.bits_in.ensures c.group_of-g.ensures
-    c.change.ensures c.change-in-loop-j.ensures.0 c.change-in-loop-j.ensures.1 c.next.ensures
+    along_more _ _ c.loop-j.invariant (search rules) c.triplet_at-t.ensures c.is_damaged-damaged.ensures c.bits_in.ensures c.group_of-g.ensures
+    c.change.ensures c.change-in-loop-j.ensures.0 c.change-in-loop-j.ensures.1 c.next-s.ensures
 
 pub returns : goal.returns
 unfolding groups_in

@@ -3,4 +3,4 @@ use Rattle.preselection.proofs.Triplets.{Along}
 use Rattle.preselection.proofs.packet.take.Given as goal
 
 abbrev pub invariant-loop-j : goal.invariant-loop-j
-invariant-loop-j l = Along l.bytes l.k l.initial.taken.state l.initial.taken.page l.taken.damaged l.taken.state l.taken.page l.j
+invariant-loop-j l = Along l.bytes l.k l.initial.s l.initial.so_far l.damaged l.s l.so_far l.j

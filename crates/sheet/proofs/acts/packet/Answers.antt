@@ -21,6 +21,6 @@ returns c =
       ← c.packet-heard.ensures.answer_value.0,
       ← c.number-number.ensures,
       ← after_it,
-      c.packet_line.ensures.0,
+      c.packet_line-at.ensures.0,
     )
-    (refl, c.packet_line.ensures.1)
+    (refl, c.packet_line-at.ensures.1)

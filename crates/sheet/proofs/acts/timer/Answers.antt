@@ -20,4 +20,4 @@ returns c =
     -- what the desk answers to them
     let o = add_of (booking_in (take 9 l)) a.desk in
     let e : (add_answer c.add-added.result.answer ≡ said_by o) × (c.add-added.result.desk ≡ left_by a.desk o) = rw (← read) c.add-added.ensures in
-    rw (← e.0, ← e.1, c.timer_line.ensures.0) (refl, c.timer_line.ensures.1)
+    rw (← e.0, ← e.1, c.timer_line-at.ensures.0) (refl, c.timer_line-at.ensures.1)
