@@ -57,7 +57,7 @@ fn answer<W: Write>(to: &mut W, a: Result<State, NoTimer>) {
     }
 }
 
-fn event<W: Write>(to: &mut W, desk: Desk, slot: usize, e: u32) {
+fn event<W: Write>(to: &mut W, desk: &Desk, slot: usize, e: u32) {
     if e == OFF {
         return;
     }
@@ -69,7 +69,7 @@ fn event<W: Write>(to: &mut W, desk: Desk, slot: usize, e: u32) {
     answer(to, desk.ask(slot));
 }
 
-pub(crate) fn print<W: Write>(to: &mut W, desk: Desk, s: Sequence, at: u32) {
+pub(crate) fn print<W: Write>(to: &mut W, desk: &Desk, s: Sequence, at: u32) {
     let _ = write!(to, "{}", s.number);
     text(to, b" ");
     time(to, at);

@@ -12,7 +12,7 @@ use events::SEQUENCES;
 
 fn main(rt: HostRuntime) {
     let mut to = rt.stdout();
-    for s in SEQUENCES {
-        play::play(&mut to, s);
+    for s in &SEQUENCES {
+        play::play(&mut to, *s);
     }
 }

@@ -16,29 +16,26 @@ fn packet_of(l: Label) -> [u8; 42] {
     bytes
 }
 
-fn send(desk: Desk, s: Sequence, time: u32, lci: u8, sent: u32) -> Desk {
+// The desk is lent: one that each of these takes and gives lies on the stack for each.
+fn send(desk: &mut Desk, s: Sequence, time: u32, lci: u8, sent: u32) {
     if sent == OFF {
-        return desk;
+        return;
     }
     let bytes = packet_of(label_of(s.month, s.cni, lci, sent));
-    desk.packet(TUNER, time, &bytes).desk
+    *desk = desk.packet(TUNER, time, &bytes).desk;
 }
 
-fn send_all(desk: Desk, s: Sequence, time: u32, sent: [u32; 4]) -> Desk {
-    let mut d = desk;
+fn send_all(desk: &mut Desk, s: Sequence, time: u32, sent: [u32; 4]) {
     for lci in 0..4 {
-        d = send(d, s, time, lci, sent[lci as usize]);
+        send(desk, s, time, lci, sent[lci as usize]);
     }
-    d
 }
 
 // Once in each second up to `until`, which is not among them.
-fn repeat(desk: Desk, s: Sequence, from: u32, until: u32, sent: [u32; 4]) -> Desk {
-    let mut d = desk;
+fn repeat(desk: &mut Desk, s: Sequence, from: u32, until: u32, sent: [u32; 4]) {
     for time in from..until {
-        d = send_all(d, s, time, sent);
+        send_all(desk, s, time, sent);
     }
-    d
 }
 
 fn book(desk: Desk, s: Sequence, event: u32) -> Desk {
@@ -71,18 +68,19 @@ fn end_of(month: u8, at: u32, next: Option<&Row>) -> u32 {
     until
 }
 
-fn play_row<W: Write>(to: &mut W, desk: Desk, s: Sequence, row: &Row, next: Option<&Row>) -> Desk {
+fn play_row<W: Write>(to: &mut W, desk: &mut Desk, s: Sequence, row: &Row, next: Option<&Row>) {
     let Row(at, sent) = *row;
     let from = second_of(s.month, at);
-    let d = send_all(desk, s, from, sent).wait(from).desk;
-    line::print(to, d, s, at);
-    repeat(d, s, from + 1, end_of(s.month, at, next), sent)
+    send_all(desk, s, from, sent);
+    *desk = desk.wait(from).desk;
+    line::print(to, desk, s, at);
+    repeat(desk, s, from + 1, end_of(s.month, at, next), sent);
 }
 
 pub(crate) fn play<W: Write>(to: &mut W, s: Sequence) {
     let mut d = booked(s);
     let rows = rows_of(s.number);
     for (i, row) in rows.iter().enumerate() {
-        d = play_row(to, d, s, row, rows.get(i + 1));
+        play_row(to, &mut d, s, row, rows.get(i + 1));
     }
 }
